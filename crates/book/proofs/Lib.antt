@@ -1,0 +1,5 @@
+pub mod Allows
+pub mod Entries
+pub mod Orders
+pub mod Steps
+pub mod Tells

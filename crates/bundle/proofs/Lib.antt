@@ -1,0 +1,5 @@
+pub mod Bundles
+pub mod Checks
+pub mod Padding
+pub mod Steps
+pub mod Supplies

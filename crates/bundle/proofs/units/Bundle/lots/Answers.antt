@@ -1,0 +1,6 @@
+use mathlib.Core.Path.{sym}
+use Rattle.bundle.proofs.Padding.{length-units}
+use Rattle.bundle.proofs.units.Bundle.lots.Needs as need
+
+pub returns : need.returns
+returns c = sym (length-units (c .args .self .now))

@@ -1,0 +1,128 @@
+// The supply: made, counted, and the place of each bundle within it.
+ghost use mathlib.Core.Path.{_≡_};
+ghost use mathlib.Core.Bool.{cond};
+ghost use Prim.Native.Nat.{_+_, _-_, _*_, _≤_};
+ghost use lib.Dec.{ltb};
+ghost use lib.ListN.{length, drop, replicate};
+ghost use Rattle.std.specs.Options.{mapped};
+ghost use Rattle.std.specs.declared.option.Option.the-variants.{Some, None};
+ghost use Rattle.bundle.specs.Bundles.{units-of};
+ghost use Rattle.bundle.specs.Checks.{viewed};
+ghost use Rattle.bundle.specs.Stocks.{supply-of, Counted};
+ghost use Rattle.bundle.specs.Supplies.{supply-in};
+ghost use Rattle.bundle.specs.Units.{place, bundles, bundle-at};
+use crate::refusals::Unsold;
+use crate::stock::Supply;
+use crate::units::Bundle;
+
+// Units of a lot.
+const MAX_UNITS: usize = 64;
+
+const MAX_BUNDLES: usize = 4096;
+
+// How many bundles there are within these units; else the first lot that cannot be sold.
+fn count_bundles(units: &Bundle) -> Result<usize, usize>
+    ensures { λ r. ⌜ Counted (units-of (now (units .entry))) r ⌝ }
+{
+    let mut total = 1;
+    for lot in 0..units.lots {
+        let count = units.counts[lot] as usize;
+        if count == 0 || count > MAX_UNITS {
+            return Err(lot);
+        }
+        total *= count + 1;
+        if total > MAX_BUNDLES {
+            return Err(lot);
+        }
+    }
+    Ok(total)
+}
+
+impl Supply {
+    // The supply of these units, or what is wrong with them first.
+    pub fn new(units: &[u8]) -> Result<Supply, Unsold>
+        ensures { λ r. ⌜ viewed supply-of r ≡ supply-in (now (units .entry)) ⌝ }
+    {
+        let Some(units) = Bundle::new(units) else {
+            return Err(Unsold::LotCount);
+        };
+        if units.lots == 0 {
+            return Err(Unsold::LotCount);
+        }
+        match count_bundles(&units) {
+            Ok(total) => Ok(Supply { units, total }),
+            Err(lot) => Err(Unsold::Lot(lot)),
+        }
+    }
+
+    pub fn units(&self) -> Bundle
+        ensures { λ r. ⌜ units-of r ≡ supply-of (now (self .entry)) ⌝ }
+    {
+        self.units
+    }
+
+    pub fn lots(&self) -> usize
+        ensures value { λ r. ⌜ r ≡ length (supply-of (now (self .entry))) ⌝ }
+        ensures few { λ r. ⌜ r ≤ 12 ⌝ }
+    {
+        Bundle::lots(&self.units)
+    }
+
+    // No units of any lot.
+    pub fn nothing(&self) -> Bundle
+        ensures { λ r. ⌜ units-of r ≡ replicate (length (supply-of (now (self .entry)))) 0 ⌝ }
+    {
+        Bundle {
+            counts: [0; 12],
+            lots: self.units.lots,
+        }
+    }
+
+    // How many bundles there are within the supply.
+    pub fn bundles(&self) -> usize
+        ensures { λ r. ⌜ r ≡ bundles (supply-of (now (self .entry))) ⌝ }
+    {
+        self.total
+    }
+
+    // The place of a bundle among them.
+    pub fn place(&self, x: &Bundle) -> usize
+        ensures { λ r. ⌜ r ≡ place (supply-of (now (self .entry))) (units-of (now (x .entry))) ⌝ }
+    {
+        self.place_of_last(x, self.units.lots)
+    }
+
+    // The number that the counts of the last `left` lots make.
+    fn place_of_last(&self, x: &Bundle, left: usize) -> usize
+        requires { ⌜ left ≤ now self .units .lots ⌝ }
+        ensures is { λ r. ⌜ r ≡ place (drop (now (self .entry) .units .lots - left) (supply-of (now (self .entry)))) (drop (now (self .entry) .units .lots - left) (now (x .entry) .counts)) ⌝ }
+        ensures small { λ r. ⌜ r ≤ 255 * left * bundles (drop (now (self .entry) .units .lots - left) (supply-of (now (self .entry)))) ⌝ }
+    {
+        if left == 0 {
+            return 0;
+        }
+        let lot = self.units.lots - left;
+        let rest = self.place_of_last(x, left - 1);
+        x.counts[lot] as usize + (self.units.counts[lot] as usize + 1) * rest
+    }
+
+    // The bundle at a place; `None` past the last.
+    pub fn bundle_at(&self, place: usize) -> Option<Bundle>
+        ensures { λ r. ⌜ mapped units-of r ≡ cond (ltb place (bundles (supply-of (now (self .entry))))) (Some (bundle-at (supply-of (now (self .entry))) place)) None ⌝ }
+    {
+        if place >= self.total {
+            return None;
+        }
+        let mut counts = [0; 12];
+        let mut left = place;
+        for lot in 0..self.units.lots {
+            let base = self.units.counts[lot] as usize + 1;
+            counts[lot] = (left % base) as u8;
+            left /= base;
+        }
+        Some(Bundle {
+            counts,
+            lots: self.units.lots,
+        })
+    }
+}

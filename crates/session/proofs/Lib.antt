@@ -1,0 +1,4 @@
+pub mod Filing
+pub mod Framing
+pub mod Rows
+pub mod Walks

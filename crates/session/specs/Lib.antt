@@ -1,0 +1,4 @@
+pub mod Files
+pub mod Frames
+pub mod Parts
+pub mod Session

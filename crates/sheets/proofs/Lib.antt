@@ -1,0 +1,4 @@
+pub mod Over
+pub mod Readings
+pub mod Walks
+pub mod Writings
