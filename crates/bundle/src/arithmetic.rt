@@ -1,7 +1,7 @@
 // Bundles: made, compared, added and taken away.
 ghost use mathlib.Core.Path.{_≡_};
 ghost use mathlib.Core.Bool.{cond};
-ghost use mathlib.Core.List.{[]};
+ghost use Prim.Native.Nat.{min, _≤_};
 ghost use lib.Dec.{ltb};
 ghost use lib.ListN.{length, getD, set, replicate};
 ghost use Rattle.std.specs.Options.{mapped};
@@ -11,13 +11,13 @@ ghost use Rattle.bundle.specs.Units.{plus, less, within};
 use crate::units::Bundle;
 
 impl Bundle {
-    // A bundle of no lots.
-    pub fn none() -> Bundle
-        ensures { λ r. ⌜ units-of r ≡ [] ⌝ }
+    // No units of so many lots, at most twelve.
+    pub fn empty(lots: usize) -> Bundle
+        ensures { λ r. ⌜ units-of r ≡ replicate (min lots 12) 0 ⌝ }
     {
         Bundle {
             counts: [0; 12],
-            lots: 0,
+            lots: lots.min(12),
         }
     }
 
@@ -42,7 +42,8 @@ impl Bundle {
     }
 
     pub fn lots(&self) -> usize
-        ensures { λ r. ⌜ r ≡ length (units-of (now (self .entry))) ⌝ }
+        ensures value { λ r. ⌜ r ≡ length (units-of (now (self .entry))) ⌝ }
+        ensures few { λ r. ⌜ r ≤ 12 ⌝ }
     {
         self.lots
     }

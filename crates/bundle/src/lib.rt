@@ -10,6 +10,7 @@ mod units;
 
 pub use prices::Reserve;
 pub use refusals::Unsold;
+pub use refusals::UnsoldDebug;
 pub use stock::Supply;
 pub use theorems::place_of_difference_stands;
 pub use theorems::places_below_stands;

@@ -3,7 +3,7 @@ ghost use mathlib.Core.Path.{_≡_};
 ghost use mathlib.Core.Bool.{cond};
 ghost use Prim.Native.Nat.{_+_, _-_, _*_, _≤_};
 ghost use lib.Dec.{ltb};
-ghost use lib.ListN.{length, drop, replicate};
+ghost use lib.ListN.{drop};
 ghost use Rattle.std.specs.Options.{mapped};
 ghost use Rattle.std.specs.declared.option.Option.the-variants.{Some, None};
 ghost use Rattle.bundle.specs.Bundles.{units-of};
@@ -59,23 +59,6 @@ impl Supply {
         ensures { λ r. ⌜ units-of r ≡ supply-of (now (self .entry)) ⌝ }
     {
         self.units
-    }
-
-    pub fn lots(&self) -> usize
-        ensures value { λ r. ⌜ r ≡ length (supply-of (now (self .entry))) ⌝ }
-        ensures few { λ r. ⌜ r ≤ 12 ⌝ }
-    {
-        Bundle::lots(&self.units)
-    }
-
-    // No units of any lot.
-    pub fn nothing(&self) -> Bundle
-        ensures { λ r. ⌜ units-of r ≡ replicate (length (supply-of (now (self .entry)))) 0 ⌝ }
-    {
-        Bundle {
-            counts: [0; 12],
-            lots: self.units.lots,
-        }
     }
 
     // How many bundles there are within the supply.

@@ -8,5 +8,6 @@ mod theorems;
 
 pub use lots::Lot;
 pub use refusals::Unopened;
+pub use refusals::UnopenedDebug;
 pub use state::Sale;
 pub use theorems::opens_exactly_stands;

@@ -18,7 +18,7 @@ impl Sheet {
     {
         let none = Line {
             worth: 0,
-            units: Bundle::none(),
+            units: Bundle::empty(0),
         };
         Sheet {
             lines: [none; 32],

@@ -120,8 +120,9 @@ fn read_units(bytes: &[u8], at: usize, supply: &Supply) -> Result<Bundle, Refusa
     requires { ⌜ at + length (supply-of (now supply)) ≤ length (now bytes) ⌝ }
     ensures { λ r. ⌜ viewed units-of r ≡ units-in (supply-of (now (supply .entry))) (now (bytes .entry)) at ⌝ }
 {
-    let mut units = supply.nothing();
-    for lot in 0..supply.lots() {
+    let lots = supply.units().lots();
+    let mut units = Bundle::empty(lots);
+    for lot in 0..lots {
         let Some(count) = count_within(bytes[at + lot], supply, lot) else {
             return Err(Refusal::UnitsAboveSupply(at + lot));
         };
@@ -157,7 +158,7 @@ fn read_sheet(
 {
     let none = Line {
         worth: 0,
-        units: supply.nothing(),
+        units: Bundle::empty(0),
     };
     let mut lines = [none; 32];
     let mut at = 6;
@@ -190,7 +191,7 @@ pub fn read(
     let Some(count) = line_count(bytes) else {
         return Err(Refusal::ManyLines(5));
     };
-    let Some(size) = line_size(bytes, count, supply.lots()) else {
+    let Some(size) = line_size(bytes, count, supply.units().lots()) else {
         return Err(Refusal::WrongLength(bytes.len()));
     };
     let sheet = read_sheet(bytes, count, size, supply, account)?;

@@ -1,5 +1,5 @@
 use mathlib.Core.Path.{_≡_, sym, ap, _∙_}
-use Prim.Native.Nat.{_+_, _≤_, _<_}
+use Prim.Native.Nat.{min, _+_, _≤_, _<_}
 use native.Mathlib.Omega.{arith}
 use lib.ListN.{length, length-set, length-replicate, take, drop}
 use Rattle.std.proofs.shelf.Lists.{take-all}
@@ -13,14 +13,15 @@ use Rattle.sheets.proofs.reader.read_units.Needs as need
 pub loop-lot-holds : need.loop-lot-holds
 loop-lot-holds c =
     let ss = supply-of (c .args .supply .now) in
+    let all : min (c .lots-lots .result) 12 ≡ length ss = omega (arith, ap length (c .units .ensures)) in
     let start : c .args .at + 0 ≡ c .args .at = omega arith in (
-      ap length (c .nothing-units .ensures) ∙ length-replicate (length ss) 0,
+      ap length (c .empty-units .ensures) ∙ length-replicate (min (c .lots-lots .result) 12) 0 ∙ all,
       behind-none (units-in ss (c .args .bytes .now) (c .args .at + 0)) ∙ ap (units-in ss (c .args .bytes .now)) start,
     )
 
 pub returns-in-rest : need.returns-in-rest
 returns-in-rest c =
-    sym (units-stop (supply-of (c .args .supply .now)) (c .args .bytes .now) (units-of (c .loop-lot .units)) (c .args .at) (c .loop-lot .lot) (omega arith) (c .in-rest .ensures tt))
+    sym (units-stop (supply-of (c .args .supply .now)) (c .args .bytes .now) (units-of (c .loop-lot .units)) (c .args .at) (c .loop-lot .lot) (omega (arith, ap length (c .units .ensures))) (c .in-rest .ensures tt))
     ∙ c .loop-lot .inv .1
 
 pub loop-lot-again : need.loop-lot-again
@@ -31,7 +32,7 @@ loop-lot-again c =
     let e = c .in-Some .ensures tt in (
       ap length (c .with-count-units .ensures) ∙ simp length-set (c .loop-lot .inv .0),
       ap (λ l. behind (take (i + 1) l) (units-in (drop (i + 1) ss) (c .args .bytes .now) (c .args .at + (i + 1)))) (c .with-count-units .ensures)
-          ∙ units-go ss (c .args .bytes .now) us (c .args .at) i (c .in-Some .count) (omega arith) (omega arith) (e .1) (e .0)
+          ∙ units-go ss (c .args .bytes .now) us (c .args .at) i (c .in-Some .count) (omega (arith, ap length (c .units .ensures))) (omega (arith, ap length (c .units .ensures))) (e .1) (e .0)
           ∙ c .loop-lot .inv .1,
     )
 
@@ -39,6 +40,6 @@ pub returns : need.returns
 returns c =
     let us = units-of (c .loop-lot .units) in
     let i = c .loop-lot .lot in
-    ap (λ l. Ok l) (sym (take-all i us (omega arith)))
-    ∙ sym (units-end (supply-of (c .args .supply .now)) (c .args .bytes .now) us (c .args .at) i (omega arith))
+    ap (λ l. Ok l) (sym (take-all i us (omega (arith, ap length (c .units .ensures)))))
+    ∙ sym (units-end (supply-of (c .args .supply .now)) (c .args .bytes .now) us (c .args .at) i (omega (arith, ap length (c .units .ensures))))
     ∙ c .loop-lot .inv .1

@@ -22,7 +22,7 @@ loop-k-again c =
     let l = c .index-sheet-k .result in
     let xs = c .args .out .now in
     let room = next-fits s (c .loop-k .k) (c .loop-k .at) (length xs) l (omega arith) (c .loop-k .inv .0) (omega arith) in (
-      length-next (s .lines) (c .loop-k .k) l (omega arith) (c .loop-k .at) (c .lots .result) (c .loop-k .inv .0) (c .lots .ensures),
+      length-next (s .lines) (c .loop-k .k) l (omega arith) (c .loop-k .at) (c .lots .result) (c .loop-k .inv .0) (c .lots .ensures .value),
       over-next (s .lines) (c .loop-k .k) l (omega arith) (c .loop-k .at) xs (c .loop-k .out) (c .put-line .last .out) (c .loop-k .inv .0) (omega (arith, room)) (c .loop-k .inv .1) (c .put-line .ensures),
     )
 

@@ -14,7 +14,7 @@ add-size-in-loop-k c = omega (arith, few-units (getD (c .args .message .now .she
 pub loop-k-again : need.loop-k-again
 loop-k-again c =
     let ls = c .args .message .now .sheet .lines in (
-      length-next ls (c .loop-k .k) (c .index-sheet-k .result) (omega arith) (c .loop-k .size) (c .lots .result) (c .loop-k .inv .0) (c .lots .ensures),
+      length-next ls (c .loop-k .k) (c .index-sheet-k .result) (omega arith) (c .loop-k .size) (c .lots .result) (c .loop-k .inv .0) (c .lots .ensures .value),
       omega (arith, few-units (getD ls (c .loop-k .k) (c .index-sheet-k .result) .units)),
     )
 

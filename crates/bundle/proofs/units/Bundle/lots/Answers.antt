@@ -3,4 +3,4 @@ use Rattle.bundle.proofs.Padding.{length-units}
 use Rattle.bundle.proofs.units.Bundle.lots.Needs as need
 
 pub returns : need.returns
-returns c = sym (length-units (c .args .self .now))
+returns c = let b = c .args .self .now in record { value = sym (length-units b); few = b .few }

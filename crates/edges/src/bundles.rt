@@ -1,0 +1,42 @@
+// Bundles at the edges.
+use bundle::Bundle;
+use bundle::Supply;
+use bundle::UnsoldDebug;
+use std::test::*;
+
+#[test]
+fn places() -> Result<(), Fail> {
+    let supply = Supply::new(&[2, 1, 3])?;
+    check_eq(supply.bundles(), 24)?;
+    for place in 0..24 {
+        let Some(x) = supply.bundle_at(place) else {
+            return Err(Fail::new("place"));
+        };
+        check_eq(supply.place(&x), place)?;
+        check(x.fits(&supply.units()))?;
+    }
+    check(supply.bundle_at(24).is_none())?;
+    let Some(x) = Bundle::new(&[1, 0, 2]) else {
+        return Err(Fail::new("bundle"));
+    };
+    check_eq(supply.place(&x), 13)
+}
+
+#[test]
+fn sums() -> Result<(), Fail> {
+    let Some(x) = Bundle::new(&[255, 3]) else {
+        return Err(Fail::new("bundle"));
+    };
+    let Some(y) = Bundle::new(&[0, 4, 5]) else {
+        return Err(Fail::new("bundle"));
+    };
+    let Some(both) = x.plus(&y) else {
+        return Err(Fail::new("sum"));
+    };
+    check(both.units() == &[255, 7, 5])?;
+    check(x.plus(&x).is_none())?;
+    check(x.minus(&y).units() == &[255, 0])?;
+    check(y.fits(&both))?;
+    check(!both.fits(&y))?;
+    check(Bundle::new(&[0; 13]).is_none())
+}

@@ -1,0 +1,9 @@
+// Tests at the edges of the rules: each refusal on both sides of its limit.
+#[cfg(test)]
+mod bundles;
+#[cfg(test)]
+mod files;
+#[cfg(test)]
+mod messages;
+#[cfg(test)]
+mod openings;
