@@ -5,7 +5,7 @@ use Prim.Native.Nat.{ℕ}
 use Rattle.std.proofs.shelf.Elements.{all-set}
 use Rattle.std.specs.declared.result.Result.{Result}
 use Rattle.std.specs.declared.result.Result.the-variants.{Ok, Err}
-use Rattle.sheets.specs.declared.refusals.Refusal.{Refusal}
+use Rattle.sheets.specs.declared.refusals.MessageRefusal.{MessageRefusal}
 use Rattle.sheets.specs.Reading.{Submission}
 use Rattle.sheets.specs.Allowed.{Allowed}
 use Rattle.sheets.proofs.Readings.{taken-if-read}
@@ -13,7 +13,7 @@ use Rattle.book.specs.Posting.{Entry, accounts-of, numbers-of, read-for, put, 
 use Rattle.book.specs.Promises.{All-allowed, Stays-allowed}
 use Rattle.book.proofs.Steps.{account-at}
 
-put-allowed : (supply : List ℕ) (es : List Entry) (m : List ℕ) (r : Result Submission Refusal) → read-for supply es m ≡ r → All-allowed supply es → All-allowed supply (put es r)
+put-allowed : (supply : List ℕ) (es : List Entry) (m : List ℕ) (r : Result Submission MessageRefusal) → read-for supply es m ≡ r → All-allowed supply es → All-allowed supply (put es r)
 put-allowed supply es m (Ok s) e a =
     let mine = subst (λ (x : ℕ). Allowed supply x (s .bids)) (account-at es (s .farm)) (taken-if-read supply (accounts-of es) (numbers-of es) m s e .allowed) in
     all-set (λ (h : Entry). Allowed supply (h .account) (h .bids)) es (s .farm) _ mine a

@@ -8,7 +8,7 @@ use lib.Seq.{take-set-lt}
 use Rattle.std.proofs.shelf.Lists.{getD-take}
 use Rattle.std.specs.declared.result.Result.{Result}
 use Rattle.sheets.specs.declared.parts.Sheet.{Sheet}
-use Rattle.sheets.specs.declared.refusals.Refusal.{Refusal}
+use Rattle.sheets.specs.declared.refusals.MessageRefusal.{MessageRefusal}
 use Rattle.sheets.specs.Reading.{Submission, read-message}
 use Rattle.sheets.specs.Sheets.{bids-of}
 use Rattle.book.specs.Books.{entries, entries-of, supply-in}
@@ -82,7 +82,7 @@ unfolding entries-of
 numbers-book b = numbers-entries (b .farms) (b .accounts) (b .numbers) (b .sheets) (omega arith) (omega arith)
 
 -- a message read for the farms of a book
-pub read-book : (b : Book) (m : List ℕ) (r : Result Submission Refusal) →
+pub read-book : (b : Book) (m : List ℕ) (r : Result Submission MessageRefusal) →
     r ≡ read-message (supply-in b) (take (b .farms - 0) (b .accounts)) (take (b .farms - 0) (b .numbers)) m → r ≡ read-for (supply-in b) (entries-of b) m
 read-book b m r e =
     let all : b .farms - 0 ≡ b .farms = omega arith in

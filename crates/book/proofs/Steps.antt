@@ -12,8 +12,8 @@ use Rattle.std.proofs.shelf.Tests.{lt-ltb, le-ltb, cond-true, cond-false, cases
 use Rattle.std.specs.declared.result.Result.{Result}
 use Rattle.std.specs.declared.result.Result.the-variants.{Ok, Err}
 use Rattle.bundle.specs.Bids.{Bids}
-use Rattle.sheets.specs.declared.refusals.Refusal.{Refusal}
-use Rattle.sheets.specs.declared.refusals.Refusal.the-variants.{Short, NoFarm, OldNumber}
+use Rattle.sheets.specs.declared.refusals.MessageRefusal.{MessageRefusal}
+use Rattle.sheets.specs.declared.refusals.MessageRefusal.the-variants.{Short, NoFarm, OldNumber}
 use Rattle.bundle.specs.Checks.{and-then}
 use Rattle.sheets.specs.Reading.{Submission, u32-at, sender-in, sheet-in, submission-in}
 use Rattle.book.specs.Posting.{Entry, no-entry, accounts-of, numbers-of, read-for, put, post, posts, names, answers}
@@ -30,7 +30,7 @@ number-at (e ∷ es) zero = refl
 number-at (e ∷ es) (suc i) = number-at es i
 
 -- a message of one of f farms, of which entry-of has the entries
-abbrev pub read-by : List ℕ → ℕ → (ℕ → Entry) → List ℕ → Result Submission Refusal
+abbrev pub read-by : List ℕ → ℕ → (ℕ → Entry) → List ℕ → Result Submission MessageRefusal
 read-by supply f entry-of m = and-then (sender-in f m) (λ farm. submission-in supply farm (entry-of farm .account) (entry-of farm .number) m)
 
 pub read-is : (supply : List ℕ) (es : List Entry) (m : List ℕ) → read-for supply es m ≡ read-by supply (length es) (λ farm. getD es farm no-entry) m
@@ -38,29 +38,29 @@ read-is supply es m =
     λ j. and-then (sender-in (length-map es (λ (e : Entry). e .account) j) m) (λ farm. submission-in supply farm (account-at es farm j) (number-at es farm j) m)
 
 -- an entry under a number and bids, where the bids were read
-abbrev pub under : Entry → ℕ → Result Bids Refusal → Entry
+abbrev pub under : Entry → ℕ → Result Bids MessageRefusal → Entry
 under h x (Ok bids) = record { account = h .account; number = x; bids = bids }
 under h x (Err e) = h
 
 -- an entry after a message under the number x, of which the bids are r
-abbrev pub renew : ℕ → Result Bids Refusal → Entry → Entry
+abbrev pub renew : ℕ → Result Bids MessageRefusal → Entry → Entry
 renew x r h = cond (ltb (h .number) x) (under h x r) h
 
 -- an entry after a message of its farm
 abbrev pub after : List ℕ → List ℕ → Entry → Entry
 after supply m h = renew (u32-at m 1) (sheet-in supply (h .account) m) h
 
-old : (x : ℕ) (r : Result Bids Refusal) (h : Entry) → x ≤ h .number → renew x r h ≡ h
+old : (x : ℕ) (r : Result Bids MessageRefusal) (h : Entry) → x ≤ h .number → renew x r h ≡ h
 old x r h g = cond-false _ _ _ (le-ltb (h .number) x g)
 
-new : (x : ℕ) (r : Result Bids Refusal) (h : Entry) → h .number < x → renew x r h ≡ under h x r
+new : (x : ℕ) (r : Result Bids MessageRefusal) (h : Entry) → h .number < x → renew x r h ≡ under h x r
 new x r h g = cond-true _ _ _ (lt-ltb (h .number) x g)
 
-bad : (x : ℕ) (e : Refusal) (h : Entry) → renew x (Err e) h ≡ h
+bad : (x : ℕ) (e : MessageRefusal) (h : Entry) → renew x (Err e) h ≡ h
 bad x e h = ⊎-elim (new x (Err e) h) (old x (Err e) h) (cases-lt (h .number) x)
 
 -- a message under a lower number changes nothing after one under a higher
-low-last : (x y : ℕ) (r : Result Bids Refusal) (ls : Bids) (h : Entry) → x < y → renew x r (renew y (Ok ls) h) ≡ renew y (Ok ls) h
+low-last : (x y : ℕ) (r : Result Bids MessageRefusal) (ls : Bids) (h : Entry) → x < y → renew x r (renew y (Ok ls) h) ≡ renew y (Ok ls) h
 low-last x y r ls h g =
     ⊎-elim
     (λ l. let e = new y (Ok ls) h l in let z : x ≤ y = omega arith in ap (renew x r) e ∙ old x r (under h y (Ok ls)) z ∙ sym e)
@@ -75,7 +75,7 @@ low-first x y ks ls h g =
     (λ l. ap (renew y (Ok ls)) (old x (Ok ks) h l))
     (cases-lt (h .number) x)
 
-renew-swap : (x y : ℕ) (q r : Result Bids Refusal) (h : Entry) → (x ≡ y → q ≡ r) → renew y r (renew x q h) ≡ renew x q (renew y r h)
+renew-swap : (x y : ℕ) (q r : Result Bids MessageRefusal) (h : Entry) → (x ≡ y → q ≡ r) → renew y r (renew x q h) ≡ renew x q (renew y r h)
 renew-swap x y (Err e) r h same = ap (renew y r) (bad x e h) ∙ sym (bad x e (renew y r h))
 renew-swap x y (Ok ks) (Err e) h same = bad y e (renew x (Ok ks) h) ∙ ap (renew x (Ok ks)) (sym (bad y e h))
 renew-swap x y (Ok ks) (Ok ls) h same =
@@ -87,7 +87,7 @@ renew-swap x y (Ok ks) (Ok ls) h same =
     (cases-order x y)
 
 -- a message leaves the account as it is
-account-kept : (x : ℕ) (r : Result Bids Refusal) (h : Entry) → renew x r h .account ≡ h .account
+account-kept : (x : ℕ) (r : Result Bids MessageRefusal) (h : Entry) → renew x r h .account ≡ h .account
 account-kept x (Ok ls) h = ⊎-elim (λ l. ap (λ k. k .account) (new x (Ok ls) h l)) (λ l. ap (λ k. k .account) (old x (Ok ls) h l)) (cases-lt (h .number) x)
 account-kept x (Err e) h = ap (λ k. k .account) (bad x e h)
 
@@ -99,7 +99,7 @@ after-swap supply m n h same =
     ∙ sym (ap (λ a. renew (u32-at m 1) (sheet-in supply a m) (after supply n h)) (account-kept (u32-at n 1) (sheet-in supply (h .account) n) h))
 
 -- the submission of a farm, put into its place
-put-from : (es : List Entry) (farm x : ℕ) (b : Bool) (r : Result Bids Refusal) →
+put-from : (es : List Entry) (farm x : ℕ) (b : Bool) (r : Result Bids MessageRefusal) →
     put es (and-then (cond b (Ok x) (Err (OldNumber 1))) (λ number. and-then r (λ bids. Ok (record { farm = farm; number = number; bids = bids }))))
     ≡ set es farm (cond b (under (getD es farm no-entry) x r) (getD es farm no-entry))
 put-from es farm x true (Ok ls) = refl
@@ -107,7 +107,7 @@ put-from es farm x true (Err e) = sym (set-getD es farm no-entry)
 put-from es farm x false r = sym (set-getD es farm no-entry)
 
 -- a message is of one of f farms, or of none
-pub sender-cases : (f : ℕ) (m : List ℕ) → ((6 ≤ length m) × (getD m 0 0 < f) × (sender-in f m ≡ Ok (getD m 0 0))) ⊎ ((e : Refusal) × (sender-in f m ≡ Err e))
+pub sender-cases : (f : ℕ) (m : List ℕ) → ((6 ≤ length m) × (getD m 0 0 < f) × (sender-in f m ≡ Ok (getD m 0 0))) ⊎ ((e : MessageRefusal) × (sender-in f m ≡ Err e))
 sender-cases f m =
     ⊎-elim
     (λ short. inr (Short (length m), cond-true _ _ _ (lt-ltb (length m) 6 short)))
@@ -127,7 +127,7 @@ post-at supply es m a e =
     ∙ put-from es a (u32-at m 1) (ltb (getD es a no-entry .number) (u32-at m 1)) (sheet-in supply (getD es a no-entry .account) m)
 
 -- a message without a sender changes nothing
-pub post-none : (supply : List ℕ) (es : List Entry) (m : List ℕ) (e : Refusal) → sender-in (length es) m ≡ Err e → post supply es m ≡ es
+pub post-none : (supply : List ℕ) (es : List Entry) (m : List ℕ) (e : MessageRefusal) → sender-in (length es) m ≡ Err e → post supply es m ≡ es
 post-none supply es m e h =
     ap (put es) (read-is supply es m)
     ∙ ap (λ r. put es (and-then r (λ farm. submission-in supply farm (getD es farm no-entry .account) (getD es farm no-entry .number) m))) h

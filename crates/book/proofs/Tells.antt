@@ -9,7 +9,7 @@ use lib.ListN.{length, getD}
 use Rattle.std.proofs.shelf.Lists.{getD-set-same}
 use Rattle.std.specs.declared.result.Result.{Result}
 use Rattle.std.specs.declared.result.Result.the-variants.{Ok, Err}
-use Rattle.sheets.specs.declared.refusals.Refusal.{Refusal}
+use Rattle.sheets.specs.declared.refusals.MessageRefusal.{MessageRefusal}
 use Rattle.bundle.specs.Checks.{and-then}
 use Rattle.sheets.specs.Reading.{Submission, sender-in, submission-in}
 use Rattle.book.specs.declared.answers.Answer.{Answer}
@@ -18,10 +18,10 @@ use Rattle.book.specs.Promises.{Told-own, Place-own}
 use Rattle.book.proofs.Steps.{read-by, read-is, after, sender-cases, post-at, post-none, length-post, named, post-other}
 
 -- a message of a farm with the entry h, one of f
-abbrev mine : List ℕ → ℕ → Entry → List ℕ → Result Submission Refusal
+abbrev mine : List ℕ → ℕ → Entry → List ℕ → Result Submission MessageRefusal
 mine supply f h m = read-by supply f (λ farm. h) m
 
-abbrev kept-or : Entry → Entry → Result ℕ Refusal → Entry
+abbrev kept-or : Entry → Entry → Result ℕ MessageRefusal → Entry
 kept-or h k (Ok a) = k
 kept-or h k (Err e) = h
 

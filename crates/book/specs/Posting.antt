@@ -7,7 +7,7 @@ use lib.ListN.{getD, set}
 use Rattle.std.specs.declared.result.Result.{Result}
 use Rattle.std.specs.declared.result.Result.the-variants.{Ok, Err}
 use Rattle.bundle.specs.Bids.{Bids}
-use Rattle.sheets.specs.declared.refusals.Refusal.{Refusal}
+use Rattle.sheets.specs.declared.refusals.MessageRefusal.{MessageRefusal}
 use Rattle.sheets.specs.Reading.{Submission, read-message}
 use Rattle.book.specs.declared.answers.Answer.{Answer}
 use Rattle.book.specs.declared.answers.Answer.the-variants.{Taken, Refused}
@@ -32,11 +32,11 @@ abbrev pub numbers-of : List Entry → List ℕ
 numbers-of es = map (λ (e : Entry). e .number) es
 
 -- what a message says to a book with these entries
-abbrev pub read-for : List ℕ → List Entry → List ℕ → Result Submission Refusal
+abbrev pub read-for : List ℕ → List Entry → List ℕ → Result Submission MessageRefusal
 read-for supply es m = read-message supply (accounts-of es) (numbers-of es) m
 
 -- a submission takes its farm's place; a refused message changes nothing
-abbrev pub put : List Entry → Result Submission Refusal → List Entry
+abbrev pub put : List Entry → Result Submission MessageRefusal → List Entry
 put es (Ok s) = set es (s .farm) (record { account = getD es (s .farm) no-entry .account; number = s .number; bids = s .bids })
 put es (Err e) = es
 
@@ -48,7 +48,7 @@ abbrev pub posts : List ℕ → List Entry → List (List ℕ) → List Entry
 posts supply es [] = es
 posts supply es (m ∷ ms) = posts supply (post supply es m) ms
 
-abbrev pub answer-of : Result Submission Refusal → Answer
+abbrev pub answer-of : Result Submission MessageRefusal → Answer
 answer-of (Ok s) = Taken
 answer-of (Err e) = Refused e
 
@@ -67,9 +67,12 @@ abbrev pub own : ℕ → List (List ℕ) → List (List ℕ)
 own i [] = []
 own i (m ∷ ms) = cond (names i m) (m ∷ own i ms) (own i ms)
 
--- what farm i is told, of its messages among all
+-- the answers to the messages of farm i, out of the answers to all
+abbrev pub own-answers : ℕ → List (List ℕ) → List Answer → List Answer
+own-answers i [] rs = []
+own-answers i (m ∷ ms) [] = []
+own-answers i (m ∷ ms) (r ∷ rs) = cond (names i m) (r ∷ own-answers i ms rs) (own-answers i ms rs)
+
+-- what farm i is told
 abbrev pub told : List ℕ → List Entry → ℕ → List (List ℕ) → List Answer
-told supply es i [] = []
-told supply es i (m ∷ ms) =
-    let rest = told supply (post supply es m) i ms in
-    cond (names i m) (answer-of (read-for supply es m) ∷ rest) rest
+told supply es i ms = own-answers i ms (answers supply es ms)

@@ -1,8 +1,8 @@
 // What a farm is told of a message.
-use sheets::Refusal;
+use sheets::MessageRefusal;
 
 #[derive(Clone, Copy)]
 pub enum Answer {
     Taken,
-    Refused(Refusal),
+    Refused(MessageRefusal),
 }

@@ -17,7 +17,7 @@ use Rattle.std.specs.declared.result.Result.the-variants.{Ok, Err}
 use Rattle.bundle.specs.Reserves.{overpriced-lot}
 use Rattle.bundle.specs.Supplies.{Sold, unsold-lot, sold-but, supply-in, Sold-exactly}
 use Rattle.bundle.specs.Units.{bundles}
-use Rattle.bundle.specs.declared.refusals.Unsold.the-variants.{LotCount}
+use Rattle.bundle.specs.declared.refusals.SupplyRefusal.the-variants.{LotCount}
 use Rattle.bundle.proofs.Bundles.{bundles-pos}
 
 -- what is wrong with a lot of u units, where the lots before it have n bundles

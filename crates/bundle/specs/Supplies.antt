@@ -10,8 +10,8 @@ use Rattle.std.specs.declared.option.Option.the-variants.{Some, None}
 use Rattle.std.specs.declared.result.Result.{Result}
 use Rattle.std.specs.declared.result.Result.the-variants.{Ok, Err}
 use Rattle.bundle.specs.Units.{bundles}
-use Rattle.bundle.specs.declared.refusals.Unsold.{Unsold}
-use Rattle.bundle.specs.declared.refusals.Unsold.the-variants.{LotCount, Lot}
+use Rattle.bundle.specs.declared.refusals.SupplyRefusal.{SupplyRefusal}
+use Rattle.bundle.specs.declared.refusals.SupplyRefusal.the-variants.{LotCount, Lot}
 
 -- 1 to 12 lots, 1 to 64 units of each, and at most 4,096 bundles
 pub record Sold (us : List ℕ) : Type 0 where
@@ -26,12 +26,12 @@ abbrev pub unsold-lot : List ℕ → ℕ → ℕ → Option ℕ
 unsold-lot [] j n = None
 unsold-lot (u ∷ us) j n = cond (eqb u 0 || (ltb 64 u || ltb 4096 (n * (u + 1)))) (Some j) (unsold-lot us (j + 1) (n * (u + 1)))
 
-abbrev pub sold-but : Option ℕ → List ℕ → Result (List ℕ) Unsold
+abbrev pub sold-but : Option ℕ → List ℕ → Result (List ℕ) SupplyRefusal
 sold-but None us = Ok us
 sold-but (Some j) us = Err (Lot j)
 
 -- the supply, or what is wrong first
-abbrev pub supply-in : List ℕ → Result (List ℕ) Unsold
+abbrev pub supply-in : List ℕ → Result (List ℕ) SupplyRefusal
 supply-in us = cond (eqb (length us) 0 || ltb 12 (length us)) (Err LotCount) (sold-but (unsold-lot us 0 1) us)
 
 -- a supply is taken exactly if it can be sold

@@ -9,8 +9,8 @@ mod theorems;
 mod units;
 
 pub use prices::Reserve;
-pub use refusals::Unsold;
-pub use refusals::UnsoldDebug;
+pub use refusals::SupplyRefusal;
+pub use refusals::SupplyRefusalDebug;
 pub use stock::Supply;
 pub use theorems::place_of_difference_stands;
 pub use theorems::places_below_stands;

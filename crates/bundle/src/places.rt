@@ -11,7 +11,7 @@ ghost use Rattle.bundle.specs.Checks.{viewed};
 ghost use Rattle.bundle.specs.Stocks.{supply-of, Counted};
 ghost use Rattle.bundle.specs.Supplies.{supply-in};
 ghost use Rattle.bundle.specs.Units.{place, bundles, bundle-at};
-use crate::refusals::Unsold;
+use crate::refusals::SupplyRefusal;
 use crate::stock::Supply;
 use crate::units::Bundle;
 
@@ -40,18 +40,18 @@ fn count_bundles(units: &Bundle) -> Result<usize, usize>
 
 impl Supply {
     // The supply of these units, or what is wrong with them first.
-    pub fn new(units: &[u8]) -> Result<Supply, Unsold>
+    pub fn new(units: &[u8]) -> Result<Supply, SupplyRefusal>
         ensures { λ r. ⌜ viewed supply-of r ≡ supply-in (now (units .entry)) ⌝ }
     {
         let Some(units) = Bundle::new(units) else {
-            return Err(Unsold::LotCount);
+            return Err(SupplyRefusal::LotCount);
         };
         if units.lots == 0 {
-            return Err(Unsold::LotCount);
+            return Err(SupplyRefusal::LotCount);
         }
         match count_bundles(&units) {
             Ok(total) => Ok(Supply { units, total }),
-            Err(lot) => Err(Unsold::Lot(lot)),
+            Err(lot) => Err(SupplyRefusal::Lot(lot)),
         }
     }
 

@@ -1,7 +1,7 @@
 // close_sale FILE: opens the sale of a file, takes its messages, and prints which are refused.
 use book::Answer;
 use sale::Sale;
-use session::Unrun;
+use session::RunRefusal;
 use session::message_count;
 use session::run;
 use std::env;
@@ -48,14 +48,14 @@ fn print_sale(rt: &LibcRuntime, sale: &Sale, answers: &[Answer]) -> Result<(), A
 }
 
 // A refused sale is told of on standard output, and ends with status 1.
-fn print_unrun(rt: &LibcRuntime, unrun: Unrun) -> Result<(), AnyError> {
-    match unrun {
-        Unrun::Opening(unopened) => {
-            let number = unopened.number();
-            let place = unopened.place();
+fn print_refusal(rt: &LibcRuntime, refusal: RunRefusal) -> Result<(), AnyError> {
+    match refusal {
+        RunRefusal::Opening(refusal) => {
+            let number = refusal.number();
+            let place = refusal.place();
             println!(rt, "sale refused {number} at {place}")?;
         }
-        Unrun::Room(count) => eprintln!(rt, "close_sale: no room for {count} answers")?,
+        RunRefusal::Room(count) => eprintln!(rt, "close_sale: no room for {count} answers")?,
     }
     Err("the sale is refused".into())
 }
@@ -65,7 +65,7 @@ fn close(rt: &LibcRuntime, file: &[u8]) -> Result<(), AnyError> {
     let mut answers = vec![in rt.alloc(); Answer::Taken; count]?;
     match run(file, &mut answers) {
         Ok(sale) => print_sale(rt, &sale, &answers),
-        Err(unrun) => print_unrun(rt, unrun),
+        Err(refusal) => print_refusal(rt, refusal),
     }
 }
 

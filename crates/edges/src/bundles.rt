@@ -1,7 +1,7 @@
 // Bundles at the edges.
 use bundle::Bundle;
 use bundle::Supply;
-use bundle::UnsoldDebug;
+use bundle::SupplyRefusalDebug;
 use std::test::*;
 
 #[test]

@@ -1,76 +1,26 @@
 // Whole files: openings and messages that are cut short.
 use book::Answer;
-use session::Unrun;
+use session::RunRefusal;
 use session::message_count;
 use session::run;
 use std::test::*;
 
 // One lot of 2 units at 5, two farms with 100 and 50, and 7 in the company's account; then two messages.
-const FILE: [u8; 50] = [
-    1,
-    2,
-    5,
-    0,
-    0,
-    0,
-    2,
-    100,
-    0,
-    0,
-    0,
-    50,
-    0,
-    0,
-    0,
-    7,
-    0,
-    0,
-    0,
-    0,
-    0,
-    0,
-    0,
-    11,
-    0,
-    0,
-    1,
-    0,
-    0,
-    0,
-    1,
-    60,
-    0,
-    0,
-    0,
-    2,
-    11,
-    0,
-    1,
-    1,
-    0,
-    0,
-    0,
-    1,
-    60,
-    0,
-    0,
-    0,
-    2,
-    0,
-];
+const FILE: &[u8] =
+    b"\x01\x02\x05\0\0\0\x02\x64\0\0\0\x32\0\0\0\x07\0\0\0\0\0\0\0\x0b\0\0\x01\0\0\0\x01\x3c\0\0\0\x02\x0b\0\x01\x01\0\0\0\x01\x3c\0\0\0\x02\0";
 
 fn refused(file: &[u8]) -> (u8, usize) {
     let mut row = [Answer::Taken; 4];
     match run(file, &mut row) {
         Ok(_) => (0, 0),
-        Err(unrun) => opening_of(unrun),
+        Err(refusal) => opening_of(refusal),
     }
 }
 
-fn opening_of(unrun: Unrun) -> (u8, usize) {
-    match unrun {
-        Unrun::Opening(unopened) => (unopened.number(), unopened.place()),
-        Unrun::Room(count) => (255, count),
+fn opening_of(refusal: RunRefusal) -> (u8, usize) {
+    match refusal {
+        RunRefusal::Opening(refusal) => (refusal.number(), refusal.place()),
+        RunRefusal::Room(count) => (255, count),
     }
 }
 
@@ -109,19 +59,19 @@ fn messages_cut() -> Result<(), Fail> {
 
 #[test]
 fn messages_told() -> Result<(), Fail> {
-    check_eq(message_count(&FILE), 3)?;
-    check_eq(told(&FILE, 0), (0, 0))?;
-    check_eq(told(&FILE, 1), (7, 6))?;
-    check_eq(told(&FILE, 2), (2, 0)).note("a last byte is the beginning of a length")
+    check_eq(message_count(FILE), 3)?;
+    check_eq(told(FILE, 0), (0, 0))?;
+    check_eq(told(FILE, 1), (7, 6))?;
+    check_eq(told(FILE, 2), (2, 0)).note("a last byte is the beginning of a length")
 }
 
 // A row that is too short is refused, and left as it was.
 #[test]
 fn rooms() -> Result<(), Fail> {
     let mut row = [Answer::Taken; 2];
-    match run(&FILE, &mut row) {
+    match run(FILE, &mut row) {
         Ok(_) => return Err(Fail::new("run")),
-        Err(unrun) => check_eq(opening_of(unrun), (255, 3))?,
+        Err(refusal) => check_eq(opening_of(refusal), (255, 3))?,
     }
     match row[1] {
         Answer::Taken => Ok(()),

@@ -2,8 +2,8 @@
 use book::Answer;
 use bundle::Bundle;
 use sale::Lot;
+use sale::OpeningRefusalDebug;
 use sale::Sale;
-use sale::UnopenedDebug;
 use sheets::Line;
 use sheets::Message;
 use sheets::Sheet;

@@ -6,7 +6,7 @@ use std::test::*;
 fn opened(lots: &[Lot], accounts: &[u64], company: u64) -> (u8, usize) {
     match Sale::open(lots, accounts, company) {
         Ok(_) => (0, 0),
-        Err(unopened) => (unopened.number(), unopened.place()),
+        Err(refusal) => (refusal.number(), refusal.place()),
     }
 }
 
@@ -27,7 +27,8 @@ fn units() -> Result<(), Fail> {
     check_eq(opened(&[lot(64, 0)], &[0], 0), (0, 0))?;
     check_eq(opened(&[lot(65, 0)], &[0], 0), (10, 0))?;
     check_eq(opened(&[lot(63, 0), lot(63, 0)], &[0], 0), (0, 0)).note("4,096 bundles")?;
-    check_eq(opened(&[lot(63, 0), lot(64, 0)], &[0], 0), (10, 1)).note("4,160 bundles")?;
+    let next = opened(&[lot(40, 0), lot(49, 0), lot(1, 0)], &[0], 0);
+    check_eq(next, (10, 2)).note("4,100 bundles")?;
     check_eq(
         opened(&[lot(1, 0), lot(0, 0), lot(65, 0)], &[0], 0),
         (10, 1),

@@ -16,13 +16,13 @@ use Rattle.bundle.proofs.Checks.{then-back, then-ok, cond-past}
 use Rattle.bundle.proofs.Supplies.{sold-exactly}
 use Rattle.bundle.specs.Reserves.{overpriced-lot, priced-but, reserve-in}
 use Rattle.bundle.specs.Supplies.{Sold, unsold-lot, sold-but, supply-in}
-use Rattle.bundle.specs.declared.refusals.Unsold.{Unsold}
-use Rattle.bundle.specs.declared.refusals.Unsold.the-variants.{LotCount as NoSupply, Lot as WrongLot}
+use Rattle.bundle.specs.declared.refusals.SupplyRefusal.{SupplyRefusal}
+use Rattle.bundle.specs.declared.refusals.SupplyRefusal.the-variants.{LotCount as NoSupply, Lot as WrongLot}
 use Rattle.book.specs.Posting.{fresh}
-use Rattle.sale.specs.Opening.{House, units-of-lots, prices-of-lots, lots-checked, prices-checked, farms-checked, overfull, full-but, accounts-checked, company-checked, open-sale, Opens, opened, Opens-exactly}
+use Rattle.sale.specs.Opening.{State, units-of-lots, prices-of-lots, lots-checked, prices-checked, farms-checked, overfull, full-but, accounts-checked, company-checked, open-sale, Opens, opened, Opens-exactly}
 use Rattle.sale.specs.declared.lots.Lot.{Lot}
-use Rattle.sale.specs.declared.refusals.Unopened.{Unopened}
-use Rattle.sale.specs.declared.refusals.Unopened.the-variants.{FarmCount, Company}
+use Rattle.sale.specs.declared.refusals.OpeningRefusal.{OpeningRefusal}
+use Rattle.sale.specs.declared.refusals.OpeningRefusal.the-variants.{FarmCount, Company}
 
 -- the accounts, farm by farm
 pub overfull-here : (xs : List ℕ) (i : ℕ) → i < length xs → 1000000000 < getD xs i 0 → overfull (drop i xs) i ≡ Some i
@@ -81,7 +81,7 @@ full-own : (o : Option ℕ) (xs x : List ℕ) → full-but o xs ≡ Ok x → (o 
 full-own None xs x e = (refl, cc)
 full-own (Some i) xs x e = absurd (let z : _≡_ {A = ℕ} 0 1 = cc in omega arith)
 
-lots-back : (r : Result (List ℕ) Unsold) (x : List ℕ) → lots-checked r ≡ Ok x → r ≡ Ok x
+lots-back : (r : Result (List ℕ) SupplyRefusal) (x : List ℕ) → lots-checked r ≡ Ok x → r ≡ Ok x
 lots-back (Ok us) x e = cc
 lots-back (Err NoSupply) x e = absurd (let z : _≡_ {A = ℕ} 0 1 = cc in omega arith)
 lots-back (Err (WrongLot j)) x e = absurd (let z : _≡_ {A = ℕ} 0 1 = cc in omega arith)
@@ -140,11 +140,11 @@ pub company-ok : (n : ℕ) → n ≤ 1000000000000000 → company-checked n ≡ 
 company-ok n h = cond-false _ _ _ (le-ltb 1000000000000000 n h)
 
 -- the sale that is opened holds what was given
-house-own : (us s ps r xs x : List ℕ) (n m : ℕ) (h : House) → _≡_ {A = Result House Unopened} (Ok (record { supply = s; reserve = r; entries = map fresh x; company = m })) (Ok h) →
+state-own : (us s ps r xs x : List ℕ) (n m : ℕ) (h : State) → _≡_ {A = Result State OpeningRefusal} (Ok (record { supply = s; reserve = r; entries = map fresh x; company = m })) (Ok h) →
     s ≡ us → r ≡ ps → x ≡ xs → m ≡ n → h ≡ record { supply = us; reserve = ps; entries = map fresh xs; company = n }
-house-own us s ps r xs x n m h e p q t u = cc
+state-own us s ps r xs x n m h e p q t u = cc
 
-opens-back : (lots : List Lot) (accounts : List ℕ) (company : ℕ) (h : House) → open-sale lots accounts company ≡ Ok h →
+opens-back : (lots : List Lot) (accounts : List ℕ) (company : ℕ) (h : State) → open-sale lots accounts company ≡ Ok h →
     Opens lots accounts company × (h ≡ opened lots accounts company)
 opens-back lots accounts company h e =
     let a = then-back (lots-checked (supply-in (units-of-lots lots))) _ h e in
@@ -165,7 +165,7 @@ opens-back lots accounts company h e =
         funded = subst (λ (xs : List ℕ). (i : ℕ) → getD xs i 0 ≤ 1000000000) (farm .2) (held .0);
         covered = purse .0;
       },
-      house-own (units-of-lots lots) (a .0) (prices-of-lots lots) (b .0) accounts (d .0) company (f .0) h (f .2)
+      state-own (units-of-lots lots) (a .0) (prices-of-lots lots) (b .0) accounts (d .0) company (f .0) h (f .2)
           (lot .1) (price .1) (held .1 ∙ farm .2) (purse .1),
     )
 

@@ -1,3 +1,3 @@
-pub mod Houses
+pub mod States
 pub mod Numbers
 pub mod Opening

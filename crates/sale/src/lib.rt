@@ -7,7 +7,7 @@ mod state;
 mod theorems;
 
 pub use lots::Lot;
-pub use refusals::Unopened;
-pub use refusals::UnopenedDebug;
+pub use refusals::OpeningRefusal;
+pub use refusals::OpeningRefusalDebug;
 pub use state::Sale;
 pub use theorems::opens_exactly_stands;

@@ -1,32 +1,32 @@
 // The number and the place of a refusal.
 ghost use mathlib.Core.Path.{_≡_};
-ghost use Rattle.sale.specs.Numbers.{unopened-number, unopened-place};
-use crate::refusals::Unopened;
+ghost use Rattle.sale.specs.Numbers.{opening-number, opening-place};
+use crate::refusals::OpeningRefusal;
 
-impl Unopened {
+impl OpeningRefusal {
     pub fn number(self) -> u8
-        ensures { λ r. ⌜ r ≡ unopened-number self ⌝ }
+        ensures { λ r. ⌜ r ≡ opening-number self ⌝ }
     {
         match self {
-            Unopened::LotCount(_) => 9,
-            Unopened::Supply(_) => 10,
-            Unopened::Price(_) => 11,
-            Unopened::FarmCount(_) => 12,
-            Unopened::Account(_) => 13,
-            Unopened::Company(_) => 14,
+            OpeningRefusal::LotCount(_) => 9,
+            OpeningRefusal::Supply(_) => 10,
+            OpeningRefusal::Price(_) => 11,
+            OpeningRefusal::FarmCount(_) => 12,
+            OpeningRefusal::Account(_) => 13,
+            OpeningRefusal::Company(_) => 14,
         }
     }
 
     pub fn place(self) -> usize
-        ensures { λ r. ⌜ r ≡ unopened-place self ⌝ }
+        ensures { λ r. ⌜ r ≡ opening-place self ⌝ }
     {
         match self {
-            Unopened::LotCount(place)
-            | Unopened::Supply(place)
-            | Unopened::Price(place)
-            | Unopened::FarmCount(place)
-            | Unopened::Account(place)
-            | Unopened::Company(place) => place,
+            OpeningRefusal::LotCount(place)
+            | OpeningRefusal::Supply(place)
+            | OpeningRefusal::Price(place)
+            | OpeningRefusal::FarmCount(place)
+            | OpeningRefusal::Account(place)
+            | OpeningRefusal::Company(place) => place,
         }
     }
 }

@@ -9,16 +9,16 @@ ghost use Rattle.bundle.specs.Reserves.{prices-of, reserve-in};
 ghost use Rattle.bundle.specs.Stocks.{supply-of};
 ghost use Rattle.bundle.specs.Supplies.{supply-in};
 ghost use Rattle.book.specs.Books.{standing};
-ghost use Rattle.sale.specs.Houses.{house-of, after, reply};
-ghost use Rattle.sale.specs.Opening.{units-of-lots, prices-of-lots, unopened-by, lots-checked, prices-checked, overfull, open-sale};
+ghost use Rattle.sale.specs.States.{state-of, after, reply};
+ghost use Rattle.sale.specs.Opening.{units-of-lots, prices-of-lots, supply-refused, lots-checked, prices-checked, overfull, open-sale};
 use crate::lots::Lot;
-use crate::refusals::Unopened;
+use crate::refusals::OpeningRefusal;
 use crate::state::Sale;
 use book::Answer;
 use book::Book;
 use bundle::Reserve;
 use bundle::Supply;
-use bundle::Unsold;
+use bundle::SupplyRefusal;
 
 const MAX_LOTS: usize = 12;
 
@@ -51,39 +51,39 @@ fn prices_of(lots: &[Lot]) -> [u32; 12]
     prices
 }
 
-fn refused_by(unsold: Unsold) -> Unopened
-    ensures { λ r. ⌜ r ≡ unopened-by unsold ⌝ }
+fn refused_by(refusal: SupplyRefusal) -> OpeningRefusal
+    ensures { λ r. ⌜ r ≡ supply-refused refusal ⌝ }
 {
-    match unsold {
-        Unsold::LotCount => Unopened::LotCount(0),
-        Unsold::Lot(lot) => Unopened::Supply(lot),
+    match refusal {
+        SupplyRefusal::LotCount => OpeningRefusal::LotCount(0),
+        SupplyRefusal::Lot(lot) => OpeningRefusal::Supply(lot),
     }
 }
 
 // The supply of the lots.
-fn check_supply(lots: &[Lot]) -> Result<Supply, Unopened>
+fn check_supply(lots: &[Lot]) -> Result<Supply, OpeningRefusal>
     ensures value { λ r. ⌜ viewed supply-of r ≡ lots-checked (supply-in (units-of-lots (now (lots .entry)))) ⌝ }
     ensures few { λ r. ⌜ made r (λ _. length (now (lots .entry)) ≤ 12) ⌝ }
 {
     if lots.len() > MAX_LOTS {
-        return Err(Unopened::LotCount(0));
+        return Err(OpeningRefusal::LotCount(0));
     }
     let units = units_of(lots);
     match Supply::new(&units[0..lots.len()]) {
         Ok(supply) => Ok(supply),
-        Err(unsold) => Err(refused_by(unsold)),
+        Err(refusal) => Err(refused_by(refusal)),
     }
 }
 
 // The reserve of the lots.
-fn check_prices(lots: &[Lot]) -> Result<Reserve, Unopened>
+fn check_prices(lots: &[Lot]) -> Result<Reserve, OpeningRefusal>
     requires { ⌜ length (now lots) ≤ 12 ⌝ }
     ensures { λ r. ⌜ viewed prices-of r ≡ prices-checked (reserve-in (prices-of-lots (now (lots .entry)))) ⌝ }
 {
     let prices = prices_of(lots);
     match Reserve::new(&prices[0..lots.len()]) {
         Ok(reserve) => Ok(reserve),
-        Err(lot) => Err(Unopened::Price(lot)),
+        Err(lot) => Err(OpeningRefusal::Price(lot)),
     }
 }
 
@@ -101,19 +101,19 @@ fn overfull_account(accounts: &[u64]) -> Option<usize>
 
 impl Sale {
     // The sale of these lots among farms with these accounts, or what is wrong first.
-    pub fn open(lots: &[Lot], accounts: &[u64], company: u64) -> Result<Sale, Unopened>
-        ensures { λ r. ⌜ viewed house-of r ≡ open-sale (now (lots .entry)) (now (accounts .entry)) company ⌝ }
+    pub fn open(lots: &[Lot], accounts: &[u64], company: u64) -> Result<Sale, OpeningRefusal>
+        ensures { λ r. ⌜ viewed state-of r ≡ open-sale (now (lots .entry)) (now (accounts .entry)) company ⌝ }
     {
         let supply = check_supply(lots)?;
         let reserve = check_prices(lots)?;
         let Some(book) = Book::open(supply, accounts) else {
-            return Err(Unopened::FarmCount(0));
+            return Err(OpeningRefusal::FarmCount(0));
         };
         if let Some(farm) = overfull_account(accounts) {
-            return Err(Unopened::Account(farm));
+            return Err(OpeningRefusal::Account(farm));
         }
         if company > MAX_COMPANY {
-            return Err(Unopened::Company(0));
+            return Err(OpeningRefusal::Company(0));
         }
         Ok(Sale {
             book,
@@ -124,8 +124,8 @@ impl Sale {
 
     // The sale after a message, and what is told of it.
     pub fn post(self, bytes: &[u8]) -> (Sale, Answer)
-        ensures state { λ r. ⌜ house-of (r .0) ≡ after (house-of self) (now (bytes .entry) ∷ []) ⌝ }
-        ensures answer { λ r. ⌜ r .1 ≡ reply (house-of self) (now (bytes .entry)) ⌝ }
+        ensures state { λ r. ⌜ state-of (r .0) ≡ after (state-of self) (now (bytes .entry) ∷ []) ⌝ }
+        ensures answer { λ r. ⌜ r .1 ≡ reply (state-of self) (now (bytes .entry)) ⌝ }
     {
         let (book, answer) = self.book.post(bytes);
         let sale = Sale {
@@ -138,7 +138,7 @@ impl Sale {
 
     // How many farms have a sheet with at least one line.
     pub fn standing(&self) -> usize
-        ensures { λ r. ⌜ r ≡ standing (house-of (now (self .entry)) .entries) ⌝ }
+        ensures { λ r. ⌜ r ≡ standing (state-of (now (self .entry)) .entries) ⌝ }
     {
         self.book.standing()
     }

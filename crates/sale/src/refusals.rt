@@ -1,6 +1,6 @@
 // Why a sale is not opened, each with the place of the fault.
 #[derive(Clone, Copy, PartialEq, Eq, Debug)]
-pub enum Unopened {
+pub enum OpeningRefusal {
     // There are no lots, or more than twelve.
     LotCount(usize),
     // This lot has no units, or more than 64, or with it there are more than 4,096 bundles.

@@ -9,14 +9,14 @@ use Rattle.std.specs.declared.result.Result.the-variants.{Ok, Err}
 use Rattle.bundle.specs.Checks.{and-then}
 use Rattle.sheets.specs.Reading.{u32-at}
 use Rattle.book.specs.declared.answers.Answer.{Answer}
-use Rattle.sale.specs.Houses.{after, replies}
-use Rattle.sale.specs.Opening.{House, open-sale}
+use Rattle.sale.specs.States.{after, replies}
+use Rattle.sale.specs.Opening.{State, open-sale}
 use Rattle.sale.specs.declared.lots.Lot.{Lot}
-use Rattle.sale.specs.declared.refusals.Unopened.{Unopened}
-use Rattle.sale.specs.declared.refusals.Unopened.the-variants.{LotCount}
+use Rattle.sale.specs.declared.refusals.OpeningRefusal.{OpeningRefusal}
+use Rattle.sale.specs.declared.refusals.OpeningRefusal.the-variants.{LotCount}
 use Rattle.session.specs.Frames.{messages}
-use Rattle.session.specs.declared.refusals.Unrun.{Unrun}
-use Rattle.session.specs.declared.refusals.Unrun.the-variants.{Opening, Room}
+use Rattle.session.specs.declared.refusals.RunRefusal.{RunRefusal}
+use Rattle.session.specs.declared.refusals.RunRefusal.the-variants.{Opening, Room}
 
 -- the number in eight bytes at p, low byte first
 abbrev pub u64-at : List ℕ → ℕ → ℕ
@@ -44,7 +44,7 @@ abbrev pub opening-size : List ℕ → ℕ
 opening-size bs = 2 + lot-count bs * 5 + farm-count bs * 4 + 8
 
 -- the sale that the file opens; a file that ends inside the opening counts as one with no lots
-abbrev pub opening-in : List ℕ → Result House Unopened
+abbrev pub opening-in : List ℕ → Result State OpeningRefusal
 opening-in bs =
     cond (ltb (length bs) (opening-size bs)) (Err (LotCount 0))
     (open-sale (lots-at bs 1 (lot-count bs)) (accounts-at bs (2 + lot-count bs * 5) (farm-count bs)) (u64-at bs (2 + lot-count bs * 5 + farm-count bs * 4)))
@@ -55,22 +55,22 @@ messages-in bs = messages (drop (opening-size bs) bs)
 
 -- what the run leaves: the sale after all messages, and what is answered to each
 pub record Outcome : Type 0 where
-  pub house : House
+  pub state : State
   pub told : List Answer
 
-abbrev pub run : List ℕ → Result Outcome Unopened
-run bs = and-then (opening-in bs) (λ h. Ok (record { house = after h (messages-in bs); told = replies h (messages-in bs) }))
+abbrev pub run : List ℕ → Result Outcome OpeningRefusal
+run bs = and-then (opening-in bs) (λ h. Ok (record { state = after h (messages-in bs); told = replies h (messages-in bs) }))
 
 -- the same where there is room for so many answers
-abbrev pub ran : Result Outcome Unopened → Result House Unrun
-ran (Ok o) = Ok (o .house)
+abbrev pub ran : Result Outcome OpeningRefusal → Result State RunRefusal
+ran (Ok o) = Ok (o .state)
 ran (Err e) = Err (Opening e)
 
-abbrev pub run-within : ℕ → List ℕ → Result House Unrun
+abbrev pub run-within : ℕ → List ℕ → Result State RunRefusal
 run-within room bs = cond (ltb room (length (messages-in bs))) (Err (Room (length (messages-in bs)))) (ran (run bs))
 
 -- what the row of answers holds then: the answers at its front; what is refused changes nothing
-abbrev pub noted : Result Outcome Unopened → List Answer → List Answer
+abbrev pub noted : Result Outcome OpeningRefusal → List Answer → List Answer
 noted (Ok o) row = o .told ++ drop (length (o .told)) row
 noted (Err e) row = row
 

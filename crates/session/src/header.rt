@@ -5,11 +5,11 @@ ghost use Prim.Native.Nat.{_+_, _*_, _≤_};
 ghost use lib.ListN.{length, getD, take};
 ghost use Rattle.bundle.specs.Checks.{viewed};
 ghost use Rattle.sheets.specs.Reading.{u32-at};
-ghost use Rattle.sale.specs.Houses.{house-of};
+ghost use Rattle.sale.specs.States.{state-of};
 ghost use Rattle.session.specs.Session.{u64-at, lots-at, accounts-at, lot-count, farm-count, opening-size, opening-in};
 use sale::Lot;
+use sale::OpeningRefusal;
 use sale::Sale;
-use sale::Unopened;
 
 const NO_LOT: Lot = Lot {
     units: 0,
@@ -88,12 +88,12 @@ fn read_accounts(file: &[u8], from: usize, count: usize) -> [u64; 255]
 }
 
 // The sale that the file opens; one that ends inside the opening counts as one with no lots.
-pub(crate) fn open(file: &[u8]) -> Result<Sale, Unopened>
-    ensures { λ r. ⌜ viewed house-of r ≡ opening-in (now (file .entry)) ⌝ }
+pub(crate) fn open(file: &[u8]) -> Result<Sale, OpeningRefusal>
+    ensures { λ r. ⌜ viewed state-of r ≡ opening-in (now (file .entry)) ⌝ }
 {
     let size = size_of_opening(file);
     if file.len() < size {
-        return Err(Unopened::LotCount(0));
+        return Err(OpeningRefusal::LotCount(0));
     }
     let count = count_lots(file);
     let farms = count_farms(file);

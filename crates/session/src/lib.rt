@@ -5,7 +5,7 @@ mod refusals;
 mod running;
 mod theorems;
 
-pub use refusals::Unrun;
+pub use refusals::RunRefusal;
 pub use running::message_count;
 pub use running::run;
 pub use theorems::file_back_stands;

@@ -1,10 +1,10 @@
 // Why a file is not run.
-use sale::Unopened;
+use sale::OpeningRefusal;
 
 #[derive(Clone, Copy)]
-pub enum Unrun {
+pub enum RunRefusal {
     // Its opening is refused.
-    Opening(Unopened),
+    Opening(OpeningRefusal),
     // There are so many messages, and the row for their answers is shorter.
     Room(usize),
 }

@@ -15,7 +15,7 @@ use Rattle.std.specs.declared.result.Result.the-variants.{Ok, Err}
 use Rattle.bundle.specs.Bids.{Bid, Bids}
 use Rattle.bundle.specs.Units.{Within}
 use Rattle.bundle.proofs.Bundles.{nil-within}
-use Rattle.sheets.specs.declared.refusals.Refusal.the-variants.{Short, NoFarm, OldNumber, ManyLines, WrongLength, WorthAboveAccount, UnitsAboveSupply}
+use Rattle.sheets.specs.declared.refusals.MessageRefusal.the-variants.{Short, NoFarm, OldNumber, ManyLines, WrongLength, WorthAboveAccount, UnitsAboveSupply}
 use Rattle.bundle.specs.Checks.{and-then}
 use Rattle.sheets.specs.Reading.{Submission, u32-at, sender-in, number-in, count-in, worth-in, units-in, line-in, lines-in, sheet-in, submission-in, read-message}
 use Rattle.sheets.specs.Writing.{u32-bytes, line-bytes, message-bytes}

@@ -15,20 +15,20 @@ use Rattle.bundle.specs.Bids.{Bid, Bids}
 use Rattle.bundle.specs.Checks.{and-then}
 use Rattle.bundle.proofs.Checks.{then-ok, then-err}
 use Rattle.sheets.specs.declared.parts.Line.{Line}
-use Rattle.sheets.specs.declared.refusals.Refusal.{Refusal}
-use Rattle.sheets.specs.declared.refusals.Refusal.the-variants.{UnitsAboveSupply}
+use Rattle.sheets.specs.declared.refusals.MessageRefusal.{MessageRefusal}
+use Rattle.sheets.specs.declared.refusals.MessageRefusal.the-variants.{UnitsAboveSupply}
 use Rattle.sheets.specs.Reading.{units-in, line-in, lines-in}
 use Rattle.sheets.specs.Sheets.{bid-of}
 
 -- what is read after xs
-abbrev pub behind : {A : Type 0} → List A → Result (List A) Refusal → Result (List A) Refusal
+abbrev pub behind : {A : Type 0} → List A → Result (List A) MessageRefusal → Result (List A) MessageRefusal
 behind xs r = and-then r (λ ys. Ok (xs ++ ys))
 
-behind-push : {A : Type 0} (xs : List A) (x : A) (r : Result (List A) Refusal) → behind (xs ++ x ∷ []) r ≡ behind xs (and-then r (λ ys. Ok (x ∷ ys)))
+behind-push : {A : Type 0} (xs : List A) (x : A) (r : Result (List A) MessageRefusal) → behind (xs ++ x ∷ []) r ≡ behind xs (and-then r (λ ys. Ok (x ∷ ys)))
 behind-push xs x (Ok ys) = ap (λ l. Ok l) (append-assoc xs (x ∷ []) ys)
 behind-push xs x (Err e) = refl
 
-pub behind-none : {A : Type 0} (r : Result (List A) Refusal) → behind [] r ≡ r
+pub behind-none : {A : Type 0} (r : Result (List A) MessageRefusal) → behind [] r ≡ r
 behind-none (Ok ys) = refl
 behind-none (Err e) = refl
 
@@ -68,7 +68,7 @@ module _ (supply : List ℕ) (account : ℕ) (bs : List ℕ) (xs : Bids) (p k n 
   unfolding lines-in
   lines-more h = let e : n - k ≡ suc (n - (k + 1)) = omega arith in ap (lines-in supply account bs p) e
 
-  pub lines-stop : (e : Refusal) → k < n → Err e ≡ line-in supply account bs p → behind xs (lines-in supply account bs p (n - k)) ≡ Err e
+  pub lines-stop : (e : MessageRefusal) → k < n → Err e ≡ line-in supply account bs p → behind xs (lines-in supply account bs p (n - k)) ≡ Err e
   lines-stop e h g = ap (behind xs) (lines-more h ∙ then-err (line-in supply account bs p) _ e (sym g))
 
   pub lines-go : (l : Bid) → k < n → Ok l ≡ line-in supply account bs p →

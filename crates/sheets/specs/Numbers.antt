@@ -1,22 +1,22 @@
 -- The number and the place of each refusal of a message. Assumes nothing: these are definitions.
 use Prim.Native.Nat.{ℕ}
-use Rattle.sheets.specs.declared.refusals.Refusal.{Refusal}
-use Rattle.sheets.specs.declared.refusals.Refusal.the-variants.{Short, NoFarm, OldNumber, ManyLines, WrongLength, WorthAboveAccount, UnitsAboveSupply}
+use Rattle.sheets.specs.declared.refusals.MessageRefusal.{MessageRefusal}
+use Rattle.sheets.specs.declared.refusals.MessageRefusal.the-variants.{Short, NoFarm, OldNumber, ManyLines, WrongLength, WorthAboveAccount, UnitsAboveSupply}
 
-abbrev pub refusal-number : Refusal → ℕ
-refusal-number (Short p) = 2
-refusal-number (NoFarm p) = 3
-refusal-number (OldNumber p) = 4
-refusal-number (ManyLines p) = 5
-refusal-number (WrongLength p) = 6
-refusal-number (WorthAboveAccount p) = 7
-refusal-number (UnitsAboveSupply p) = 8
+abbrev pub message-number : MessageRefusal → ℕ
+message-number (Short p) = 2
+message-number (NoFarm p) = 3
+message-number (OldNumber p) = 4
+message-number (ManyLines p) = 5
+message-number (WrongLength p) = 6
+message-number (WorthAboveAccount p) = 7
+message-number (UnitsAboveSupply p) = 8
 
-abbrev pub refusal-place : Refusal → ℕ
-refusal-place (Short p) = p
-refusal-place (NoFarm p) = p
-refusal-place (OldNumber p) = p
-refusal-place (ManyLines p) = p
-refusal-place (WrongLength p) = p
-refusal-place (WorthAboveAccount p) = p
-refusal-place (UnitsAboveSupply p) = p
+abbrev pub message-place : MessageRefusal → ℕ
+message-place (Short p) = p
+message-place (NoFarm p) = p
+message-place (OldNumber p) = p
+message-place (ManyLines p) = p
+message-place (WrongLength p) = p
+message-place (WorthAboveAccount p) = p
+message-place (UnitsAboveSupply p) = p

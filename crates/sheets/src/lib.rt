@@ -11,6 +11,6 @@ pub use parts::Line;
 pub use parts::Message;
 pub use parts::Sheet;
 pub use reader::read;
-pub use refusals::Refusal;
+pub use refusals::MessageRefusal;
 pub use theorems::read_exactly_stands;
 pub use writer::write;

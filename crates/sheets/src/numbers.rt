@@ -1,34 +1,34 @@
 // The number and the place of a refusal.
 ghost use mathlib.Core.Path.{_≡_};
-ghost use Rattle.sheets.specs.Numbers.{refusal-number, refusal-place};
-use crate::refusals::Refusal;
+ghost use Rattle.sheets.specs.Numbers.{message-number, message-place};
+use crate::refusals::MessageRefusal;
 
-impl Refusal {
+impl MessageRefusal {
     pub fn number(self) -> u8
-        ensures { λ r. ⌜ r ≡ refusal-number self ⌝ }
+        ensures { λ r. ⌜ r ≡ message-number self ⌝ }
     {
         match self {
-            Refusal::Short(_) => 2,
-            Refusal::NoFarm(_) => 3,
-            Refusal::OldNumber(_) => 4,
-            Refusal::ManyLines(_) => 5,
-            Refusal::WrongLength(_) => 6,
-            Refusal::WorthAboveAccount(_) => 7,
-            Refusal::UnitsAboveSupply(_) => 8,
+            MessageRefusal::Short(_) => 2,
+            MessageRefusal::NoFarm(_) => 3,
+            MessageRefusal::OldNumber(_) => 4,
+            MessageRefusal::ManyLines(_) => 5,
+            MessageRefusal::WrongLength(_) => 6,
+            MessageRefusal::WorthAboveAccount(_) => 7,
+            MessageRefusal::UnitsAboveSupply(_) => 8,
         }
     }
 
     pub fn place(self) -> usize
-        ensures { λ r. ⌜ r ≡ refusal-place self ⌝ }
+        ensures { λ r. ⌜ r ≡ message-place self ⌝ }
     {
         match self {
-            Refusal::Short(place)
-            | Refusal::NoFarm(place)
-            | Refusal::OldNumber(place)
-            | Refusal::ManyLines(place)
-            | Refusal::WrongLength(place)
-            | Refusal::WorthAboveAccount(place)
-            | Refusal::UnitsAboveSupply(place) => place,
+            MessageRefusal::Short(place)
+            | MessageRefusal::NoFarm(place)
+            | MessageRefusal::OldNumber(place)
+            | MessageRefusal::ManyLines(place)
+            | MessageRefusal::WrongLength(place)
+            | MessageRefusal::WorthAboveAccount(place)
+            | MessageRefusal::UnitsAboveSupply(place) => place,
         }
     }
 }

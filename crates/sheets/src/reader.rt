@@ -11,7 +11,7 @@ ghost use Rattle.sheets.specs.Sheets.{bid-of, bids-of, submission-of};
 use crate::parts::Line;
 use crate::parts::Message;
 use crate::parts::Sheet;
-use crate::refusals::Refusal;
+use crate::refusals::MessageRefusal;
 use bundle::Bundle;
 use bundle::Supply;
 
@@ -116,7 +116,7 @@ fn count_within(count: u8, supply: &Supply, lot: usize) -> Option<u8>
 }
 
 // The units of a line, from a byte for each lot.
-fn read_units(bytes: &[u8], at: usize, supply: &Supply) -> Result<Bundle, Refusal>
+fn read_units(bytes: &[u8], at: usize, supply: &Supply) -> Result<Bundle, MessageRefusal>
     requires { ⌜ at + length (supply-of (now supply)) ≤ length (now bytes) ⌝ }
     ensures { λ r. ⌜ viewed units-of r ≡ units-in (supply-of (now (supply .entry))) (now (bytes .entry)) at ⌝ }
 {
@@ -124,7 +124,7 @@ fn read_units(bytes: &[u8], at: usize, supply: &Supply) -> Result<Bundle, Refusa
     let mut units = Bundle::empty(lots);
     for lot in 0..lots {
         let Some(count) = count_within(bytes[at + lot], supply, lot) else {
-            return Err(Refusal::UnitsAboveSupply(at + lot));
+            return Err(MessageRefusal::UnitsAboveSupply(at + lot));
         };
         units = units.with_count(lot, count);
     }
@@ -132,12 +132,12 @@ fn read_units(bytes: &[u8], at: usize, supply: &Supply) -> Result<Bundle, Refusa
 }
 
 // The line at `at`.
-fn read_line(bytes: &[u8], at: usize, supply: &Supply, account: u64) -> Result<Line, Refusal>
+fn read_line(bytes: &[u8], at: usize, supply: &Supply, account: u64) -> Result<Line, MessageRefusal>
     requires { ⌜ at + (4 + length (supply-of (now supply))) ≤ length (now bytes) ⌝ }
     ensures { λ r. ⌜ viewed bid-of r ≡ line-in (supply-of (now (supply .entry))) account (now (bytes .entry)) at ⌝ }
 {
     let Some(worth) = worth_within(bytes, at, account) else {
-        return Err(Refusal::WorthAboveAccount(at));
+        return Err(MessageRefusal::WorthAboveAccount(at));
     };
     let units = read_units(bytes, at + 4, supply)?;
     Ok(Line { worth, units })
@@ -150,7 +150,7 @@ fn read_sheet(
     size: usize,
     supply: &Supply,
     account: u64,
-) -> Result<Sheet, Refusal>
+) -> Result<Sheet, MessageRefusal>
     requires few { ⌜ count ≤ 32 ⌝ }
     requires each { ⌜ size ≡ 4 + length (supply-of (now supply)) ⌝ }
     requires long { ⌜ 6 + count * size ≤ length (now bytes) ⌝ }
@@ -176,23 +176,23 @@ pub fn read(
     supply: &Supply,
     accounts: &[u64],
     numbers: &[u32],
-) -> Result<Message, Refusal>
+) -> Result<Message, MessageRefusal>
     ensures { λ r. ⌜ viewed submission-of r ≡ read-message (supply-of (now (supply .entry))) (now (accounts .entry)) (now (numbers .entry)) (now (bytes .entry)) ⌝ }
 {
     let Some(farm) = sender(bytes) else {
-        return Err(Refusal::Short(bytes.len()));
+        return Err(MessageRefusal::Short(bytes.len()));
     };
     let Some(account) = account_of(farm, accounts) else {
-        return Err(Refusal::NoFarm(0));
+        return Err(MessageRefusal::NoFarm(0));
     };
     let Some(number) = number_above(bytes, last_number(farm, numbers)) else {
-        return Err(Refusal::OldNumber(1));
+        return Err(MessageRefusal::OldNumber(1));
     };
     let Some(count) = line_count(bytes) else {
-        return Err(Refusal::ManyLines(5));
+        return Err(MessageRefusal::ManyLines(5));
     };
     let Some(size) = line_size(bytes, count, supply.units().lots()) else {
-        return Err(Refusal::WrongLength(bytes.len()));
+        return Err(MessageRefusal::WrongLength(bytes.len()));
     };
     let sheet = read_sheet(bytes, count, size, supply, account)?;
     Ok(Message {

@@ -1,6 +1,6 @@
 // Why a message is refused, each with the place in the message where the fault lies.
 #[derive(Clone, Copy, PartialEq, Eq, Debug)]
-pub enum Refusal {
+pub enum MessageRefusal {
     // Fewer than six bytes; the place is the length.
     Short(usize),
     // There is no such farm.

@@ -4,7 +4,7 @@ use Prim.Native.Nat.{_-_, _≤_, _<_}
 use native.Mathlib.Omega.{arith}
 use lib.ListN.{length, take, drop}
 use Rattle.std.proofs.shelf.Lists.{drop-set-lt}
-use Rattle.sale.specs.Houses.{house-of, after, replies}
+use Rattle.sale.specs.States.{state-of, after, replies}
 use Rattle.session.specs.Frames.{messages}
 use Rattle.session.specs.Session.{messages-in}
 use Rattle.session.proofs.Framing.{messages-end}
@@ -15,8 +15,8 @@ pub loop-at-again : need.loop-at-again
 loop-at-again c =
     let bs = c .args .file .now in
     let f = c .frame-at-from .result in
-    let h = house-of (c .loop-at .sale) in
-    let k = house-of (c .post-answer .result .0) in
+    let h = state-of (c .loop-at .sale) in
+    let k = state-of (c .post-answer .result .0) in
     let m = take (f .to - f .from) (drop (f .from) bs) in
     let ms = messages (drop (c .loop-at .at) bs) in
     let rest = messages (drop (f .to) bs) in
@@ -31,7 +31,7 @@ loop-at-again c =
 pub returns : need.returns
 returns c =
     let bs = c .args .file .now in
-    let h = house-of (c .loop-at .sale) in
+    let h = state-of (c .loop-at .sale) in
     let none = messages-end bs (c .loop-at .at) (omega arith) in
     let all : c .loop-at .count ≡ length (messages-in bs) = omega (arith, c .loop-at .inv .0, ap length none) in
     record {

@@ -8,7 +8,7 @@ use Rattle.std.proofs.shelf.Tests.{le-ltb, cond-false}
 use Rattle.std.specs.declared.result.Result.the-variants.{Ok}
 use Rattle.bundle.proofs.Checks.{then-ok}
 use Rattle.book.proofs.Steps.{length-answers}
-use Rattle.sale.specs.Houses.{house-of, after, replies}
+use Rattle.sale.specs.States.{state-of, after, replies}
 use Rattle.session.specs.Session.{Outcome, opening-in, messages-in, run, ran, noted}
 use Rattle.session.proofs.running.run.Needs as need
 
@@ -16,10 +16,10 @@ pub returns-in-Ok : need.returns-in-Ok
 returns-in-Ok c =
     let bs = c .args .file .now in
     let row = c .args .row .now in
-    let h = house-of (c .in-Ok .sale) in
+    let h = state-of (c .in-Ok .sale) in
     let ms = messages-in bs in
     let room : ltb (length row) (length ms) ≡ false = le-ltb (length row) (length ms) (omega arith) in
-    let is : run bs ≡ Ok (record { house = after h ms; told = replies h ms }) = then-ok (opening-in bs) _ h (sym (c .in-Ok .ensures tt)) in
+    let is : run bs ≡ Ok (record { state = after h ms; told = replies h ms }) = then-ok (opening-in bs) _ h (sym (c .in-Ok .ensures tt)) in
     record {
       value = ap (λ g. Ok g) (c .post-all .ensures .state) ∙ sym (cond-false _ _ _ room ∙ ap ran is);
       told =
