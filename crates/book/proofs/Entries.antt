@@ -11,7 +11,7 @@ use Rattle.sheets.specs.declared.parts.Sheet.{Sheet}
 use Rattle.sheets.specs.declared.refusals.MessageRefusal.{MessageRefusal}
 use Rattle.sheets.specs.Reading.{Submission, read-message}
 use Rattle.sheets.specs.Sheets.{bids-of}
-use Rattle.book.specs.Books.{entries, entries-of, supply-in}
+use Rattle.book.specs.Books.{entries, entries-of, book-supply}
 use Rattle.book.specs.Posting.{Entry, no-entry, fresh, accounts-of, numbers-of, read-for}
 use Rattle.book.specs.declared.state.Book.{Book}
 
@@ -83,9 +83,9 @@ numbers-book b = numbers-entries (b .farms) (b .accounts) (b .numbers) (b .sheet
 
 -- a message read for the farms of a book
 pub read-book : (b : Book) (m : List ℕ) (r : Result Submission MessageRefusal) →
-    r ≡ read-message (supply-in b) (take (b .farms - 0) (b .accounts)) (take (b .farms - 0) (b .numbers)) m → r ≡ read-for (supply-in b) (entries-of b) m
+    r ≡ read-message (book-supply b) (take (b .farms - 0) (b .accounts)) (take (b .farms - 0) (b .numbers)) m → r ≡ read-for (book-supply b) (entries-of b) m
 read-book b m r e =
     let all : b .farms - 0 ≡ b .farms = omega arith in
     let accounts : take (b .farms - 0) (b .accounts) ≡ accounts-of (entries-of b) = ap (λ n. take n (b .accounts)) all ∙ sym (accounts-book b) in
     let numbers : take (b .farms - 0) (b .numbers) ≡ numbers-of (entries-of b) = ap (λ n. take n (b .numbers)) all ∙ sym (numbers-book b) in
-    e ∙ (λ i. read-message (supply-in b) (accounts i) (numbers i) m)
+    e ∙ (λ i. read-message (book-supply b) (accounts i) (numbers i) m)

@@ -1,5 +1,4 @@
 -- What a `Book` stands for. Assumes nothing: these are definitions.
-use mathlib.Core.Bool.{Bool}
 use mathlib.Core.List.{List, [], _∷_}
 use Prim.Native.Nat.{ℕ}
 use lib.Dec.{ltb}
@@ -21,8 +20,8 @@ entries (a ∷ rest) (n ∷ ns) (s ∷ ss) = record { account = a; number = n; b
 unfoldable pub entries-of : Book → List Entry
 entries-of b = take (b .farms) (entries (b .accounts) (b .numbers) (b .sheets))
 
-abbrev pub supply-in : Book → List ℕ
-supply-in b = supply-of (b .supply)
+abbrev pub book-supply : Book → List ℕ
+book-supply b = supply-of (b .supply)
 
 -- how many farms have a sheet with at least one line
 abbrev pub standing : List Entry → ℕ

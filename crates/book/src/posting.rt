@@ -9,7 +9,7 @@ ghost use Rattle.std.specs.Options.{Cases, mapped};
 ghost use Rattle.std.specs.declared.option.Option.the-variants.{Some, None};
 ghost use Rattle.std.specs.declared.result.Result.the-variants.{Ok};
 ghost use Rattle.sheets.specs.Sheets.{submission-of};
-ghost use Rattle.book.specs.Books.{entries-of, supply-in, standing};
+ghost use Rattle.book.specs.Books.{entries-of, book-supply, standing};
 ghost use Rattle.book.specs.Posting.{fresh, read-for, put, post, answer-of};
 use crate::answers::Answer;
 use crate::state::Book;
@@ -64,9 +64,9 @@ impl Book {
 
     // The book after a message, and what is told of it.
     pub fn post(self, bytes: &[u8]) -> (Book, Answer)
-        ensures places { λ r. ⌜ entries-of (r .0) ≡ post (supply-in self) (entries-of self) (now (bytes .entry)) ⌝ }
+        ensures places { λ r. ⌜ entries-of (r .0) ≡ post (book-supply self) (entries-of self) (now (bytes .entry)) ⌝ }
         ensures terms { λ r. ⌜ r .0 .supply ≡ self .supply ⌝ }
-        ensures answer { λ r. ⌜ r .1 ≡ answer-of (read-for (supply-in self) (entries-of self) (now (bytes .entry))) ⌝ }
+        ensures answer { λ r. ⌜ r .1 ≡ answer-of (read-for (book-supply self) (entries-of self) (now (bytes .entry))) ⌝ }
     {
         let accounts = &self.accounts[0..self.farms];
         let numbers = &self.numbers[0..self.farms];

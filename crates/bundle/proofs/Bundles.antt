@@ -1,8 +1,7 @@
 -- Lemmas of bundles: sums, differences, containment and places. Assumes nothing.
-use mathlib.Core.Path.{_≡_, refl, sym, _∙_, ap, subst}
-use mathlib.Core.Bool.{Bool, true, false, _&&_}
+use mathlib.Core.Path.{_≡_, refl, sym, _∙_, ap}
+use mathlib.Core.Bool.{true}
 use mathlib.Core.List.{List, [], _∷_}
-use mathlib.Core.Logic.{_⊎_, inl, inr}
 use Prim.Native.Nat.{ℕ, zero, suc, _+_, _*_, _-_, _/_, _%_, _≤_, _<_}
 use native.Mathlib.Nat.{mul-add, mul-comm, mul-le-mul-left, mod-lt, mod-add-div, div-lt-iff-lt-mul}
 use native.Mathlib.Omega.{arith}
@@ -11,7 +10,7 @@ use lib.ListN.{length, getD}
 use lib.Arith.{digits-lt, digits-div, digits-mod}
 use Rattle.std.proofs.shelf.Lists.{ext-getD}
 use Rattle.std.proofs.shelf.Tests.{leb-true, le-leb, eqb-true, eq-eqb, and-parts, and-from}
-use Rattle.bundle.specs.Units.{plus, less, Within, within, place, bundles, bundle-at, Meets, Places-met-once}
+use Rattle.bundle.specs.Units.{plus, less, Within, within, place, bundles, bundle-at, Places-met-once}
 
 pub length-less : (x y : List ℕ) → length (less x y) ≡ length x
 unfolding less

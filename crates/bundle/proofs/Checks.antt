@@ -3,6 +3,8 @@ use mathlib.Core.Path.{_≡_, refl, ap}
 use mathlib.Core.Bool.{Bool, true, false, cond}
 use Prim.Native.Nat.{ℕ}
 use native.Mathlib.Omega.{arith}
+use Rattle.std.specs.declared.option.Option.{Option}
+use Rattle.std.specs.declared.option.Option.the-variants.{Some, None}
 use Rattle.std.specs.declared.result.Result.{Result}
 use Rattle.std.specs.declared.result.Result.the-variants.{Ok, Err}
 use Rattle.bundle.specs.Checks.{and-then}
@@ -27,3 +29,8 @@ cond-ok false x d y e = absurd (let z : _≡_ {A = ℕ} 0 1 = cc in omega arith)
 pub cond-past : {A E : Type 0} (b : Bool) (d : E) (r : Result A E) (y : A) → cond b (Err d) r ≡ Ok y → (b ≡ false) × (r ≡ Ok y)
 cond-past true d r y e = absurd (let z : _≡_ {A = ℕ} 0 1 = cc in omega arith)
 cond-past false d r y e = (refl, e)
+
+-- a fault that would have been found was not
+pub cond-none : {X : Type 0} (b : Bool) (x : X) (o : Option X) → cond b (Some x) o ≡ None → (b ≡ false) × (o ≡ None)
+cond-none true x o e = absurd (let z : _≡_ {A = ℕ} 0 1 = cc in omega arith)
+cond-none false x o e = (refl, e)

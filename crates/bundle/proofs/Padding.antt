@@ -3,12 +3,11 @@ use mathlib.Core.Path.{_≡_, refl, sym, ap, _∙_}
 use mathlib.Core.Bool.{Bool, true, false, cond}
 use mathlib.Core.List.{List, [], _∷_, _++_}
 use mathlib.Core.Logic.{⊎-elim}
-use Prim.Native.Nat.{ℕ, zero, suc, _+_, _-_, _*_, _<_, _≤_, max}
+use Prim.Native.Nat.{ℕ, zero, suc, _+_, _-_, _<_, _≤_, max}
 use native.Mathlib.Omega.{arith}
 use lib.Dec.{ltb}
-use lib.ListN.{length, getD, take, drop, set, replicate}
-use lib.Seq.{take-set-lt}
-use Rattle.std.proofs.shelf.Lists.{length-take-le, getD-take, getD-past, ext-getD, set-past, take-at, length-append, length-drop, length-replicate, getD-append-right, drop-replicate, getD-replicate}
+use lib.ListN.{length, getD, take, drop, replicate}
+use Rattle.std.proofs.shelf.Lists.{length-take-le, getD-take, getD-past, ext-getD, length-append, length-drop, length-replicate, getD-append-right, drop-replicate, getD-replicate}
 use Rattle.std.proofs.shelf.Tests.{cases-lt, cases-bool, ltb-false}
 use Rattle.std.specs.declared.option.Option.the-variants.{Some, None}
 use Rattle.bundle.specs.Units.{plus, less, Within, within}

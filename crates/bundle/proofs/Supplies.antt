@@ -1,9 +1,9 @@
 -- Which supplies and prices are taken, lot by lot. Assumes nothing.
-use mathlib.Core.Path.{_≡_, refl, sym, ap, _∙_}
+use mathlib.Core.Path.{_≡_, refl, ap, _∙_}
 use mathlib.Core.Bool.{Bool, true, false, _||_, cond}
 use mathlib.Core.List.{List, [], _∷_}
-use mathlib.Core.Logic.{_⊎_, inl, inr, ⊎-elim}
-use Prim.Native.Nat.{ℕ, zero, suc, _+_, _-_, _*_, _<_, _≤_}
+use mathlib.Core.Logic.{_⊎_, inl, inr}
+use Prim.Native.Nat.{ℕ, zero, suc, _+_, _*_, _<_, _≤_}
 use native.Mathlib.Nat.{mul-assoc}
 use native.Mathlib.Omega.{arith}
 use lib.Dec.{ltb, eqb}
@@ -19,6 +19,7 @@ use Rattle.bundle.specs.Supplies.{Sold, unsold-lot, sold-but, supply-in, Sold-
 use Rattle.bundle.specs.Units.{bundles}
 use Rattle.bundle.specs.declared.refusals.SupplyRefusal.the-variants.{LotCount}
 use Rattle.bundle.proofs.Bundles.{bundles-pos}
+use Rattle.bundle.proofs.Checks.{cond-none}
 
 -- what is wrong with a lot of u units, where the lots before it have n bundles
 abbrev pub Wrong : ℕ → ℕ → Type 0
@@ -46,10 +47,6 @@ pub unsold-none : (us : List ℕ) (i n : ℕ) → length us ≤ i → unsold-lot
 unsold-none us i n h = at-drop-all (λ l. unsold-lot l i n) us i h
 
 -- no lot is wrong exactly if each is right
-cond-none : {X : Type 0} (b : Bool) (x : X) (o : Option X) → cond b (Some x) o ≡ None → (b ≡ false) × (o ≡ None)
-cond-none true x o e = absurd (let z : _≡_ {A = ℕ} 0 1 = cc in omega arith)
-cond-none false x o e = (refl, e)
-
 none-wrong : (us : List ℕ) (j n : ℕ) → n ≤ 4096 → unsold-lot us j n ≡ None →
     ((k : ℕ) → k < length us → 1 ≤ getD us k 0) × ((k : ℕ) → getD us k 0 ≤ 64) × (n * bundles us ≤ 4096)
 unfolding bundles

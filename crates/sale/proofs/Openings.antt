@@ -1,6 +1,6 @@
 -- When a sale is opened, check by check. Assumes nothing.
 use mathlib.Core.Path.{_≡_, refl, ap, subst, _∙_}
-use mathlib.Core.Bool.{Bool, true, false, _||_, cond}
+use mathlib.Core.Bool.{_||_}
 use mathlib.Core.List.{List, [], _∷_, map}
 use Prim.Native.Nat.{ℕ, zero, suc, _+_, _<_, _≤_}
 use native.Mathlib.Omega.{arith}
@@ -12,7 +12,7 @@ use Rattle.std.specs.declared.option.Option.{Option}
 use Rattle.std.specs.declared.option.Option.the-variants.{Some, None}
 use Rattle.std.specs.declared.result.Result.{Result}
 use Rattle.std.specs.declared.result.Result.the-variants.{Ok, Err}
-use Rattle.bundle.proofs.Checks.{then-back, then-ok, cond-past}
+use Rattle.bundle.proofs.Checks.{then-back, then-ok, cond-past, cond-none}
 use Rattle.bundle.proofs.Supplies.{sold-exactly}
 use Rattle.bundle.specs.Reserves.{overpriced-lot, priced-but, reserve-in}
 use Rattle.bundle.specs.Supplies.{Sold, unsold-lot, sold-but, supply-in}
@@ -33,11 +33,6 @@ overfull-next xs i h g = at-drop-more (λ l. overfull l i) xs i 0 h ∙ cond-fal
 
 pub overfull-none : (xs : List ℕ) (i : ℕ) → length xs ≤ i → overfull (drop i xs) i ≡ None
 overfull-none xs i h = at-drop-all (λ l. overfull l i) xs i h
-
--- a test that would have found something did not
-cond-none : {X : Type 0} (b : Bool) (x : X) (o : Option X) → cond b (Some x) o ≡ None → (b ≡ false) × (o ≡ None)
-cond-none true x o e = absurd (let z : _≡_ {A = ℕ} 0 1 = cc in omega arith)
-cond-none false x o e = (refl, e)
 
 -- a bound of the first and of the others
 bound-more : (m x : ℕ) (xs : List ℕ) → x ≤ m → ((k : ℕ) → getD xs k 0 ≤ m) → (k : ℕ) → getD (x ∷ xs) k 0 ≤ m

@@ -2,14 +2,14 @@
 use mathlib.Core.List.{List}
 use Prim.Native.Nat.{ℕ}
 use Rattle.bundle.specs.Reserves.{prices-of}
-use Rattle.book.specs.Books.{entries-of, supply-in}
+use Rattle.book.specs.Books.{entries-of, book-supply}
 use Rattle.book.specs.Posting.{posts, read-for, answer-of, answers}
 use Rattle.book.specs.declared.answers.Answer.{Answer}
 use Rattle.sale.specs.Opening.{State}
 use Rattle.sale.specs.declared.state.Sale.{Sale}
 
 abbrev pub state-of : Sale → State
-state-of s = record { supply = supply-in (s .book); reserve = prices-of (s .reserve); entries = entries-of (s .book); company = s .company }
+state-of s = record { supply = book-supply (s .book); reserve = prices-of (s .reserve); entries = entries-of (s .book); company = s .company }
 
 -- the sale after these messages
 abbrev pub after : State → List (List ℕ) → State

@@ -1,10 +1,10 @@
 -- Arrays filled item by item, and messages taken one by one. Assumes nothing.
-use mathlib.Core.Path.{_≡_, refl, sym, ap, _∙_}
+use mathlib.Core.Path.{_≡_, ap, _∙_}
 use mathlib.Core.List.{List, [], _∷_, _++_, append-assoc, append-nil}
-use Prim.Native.Nat.{ℕ, zero, suc, _+_, _*_, _-_, _≤_, _<_, min}
+use Prim.Native.Nat.{ℕ, suc, _+_, _-_, _≤_, _<_}
 use native.Mathlib.Omega.{arith}
-use lib.ListN.{length, take, drop, set, getD}
-use Rattle.std.proofs.shelf.Lists.{take-more-set, take-all, length-drop, take-append-drop}
+use lib.ListN.{length, take, set, getD}
+use Rattle.std.proofs.shelf.Lists.{take-more-set}
 use Rattle.sheets.specs.Reading.{u32-at}
 use Rattle.sale.specs.declared.lots.Lot.{Lot}
 use Rattle.session.specs.Session.{lots-at, accounts-at}

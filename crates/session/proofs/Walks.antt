@@ -1,10 +1,10 @@
 -- Messages taken one by one. Assumes nothing.
 use mathlib.Core.Path.{_≡_, refl, sym, ap, _∙_}
-use mathlib.Core.List.{List, [], _∷_, _++_, append-nil}
+use mathlib.Core.List.{List, [], _∷_, _++_}
 use Prim.Native.Nat.{ℕ, _+_, _*_, _-_, _≤_, _<_, min}
 use native.Mathlib.Omega.{arith}
 use lib.ListN.{length, take, drop, set, getD}
-use Rattle.std.proofs.shelf.Lists.{take-all, take-append-drop, length-drop, drop-set-lt}
+use Rattle.std.proofs.shelf.Lists.{take-all, take-append-drop, length-drop}
 use Rattle.std.proofs.shelf.Tests.{cases-lt}
 use mathlib.Core.Logic.{⊎-elim}
 use Rattle.book.specs.declared.answers.Answer.{Answer}

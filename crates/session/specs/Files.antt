@@ -1,6 +1,6 @@
 -- The bytes of a sale's file. Assumes nothing: these are definitions and a statement.
 use mathlib.Core.Path.{_≡_}
-use mathlib.Core.List.{List, [], _∷_, _++_}
+use mathlib.Core.List.{List, _∷_, _++_}
 use Prim.Native.Nat.{ℕ, _/_, _%_, _^_, _<_}
 use lib.ListN.{length}
 use Rattle.std.specs.Joined.{joined}

@@ -1,10 +1,9 @@
 -- Messages in a file: each after two bytes of length, low byte first. Assumes nothing: these are definitions and a statement.
 use mathlib.Core.Path.{_≡_}
 use mathlib.Core.List.{List, [], _∷_, _++_}
-use Prim.Native.Nat.{ℕ, zero, suc, _+_, _*_, _/_, _%_, _<_}
+use Prim.Native.Nat.{ℕ, zero, suc, _+_, _*_, _/_, _%_}
 use lib.ListN.{length, take, drop}
 use Rattle.std.specs.Joined.{joined}
-use Rattle.std.specs.shelf.Lists.{All}
 
 -- at most n messages; one that the file cuts short has the bytes that are there, and none where its length is cut short
 unfoldable pub frames : ℕ → List ℕ → List (List ℕ)

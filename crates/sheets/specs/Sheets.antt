@@ -1,6 +1,5 @@
 -- What lines, sheets and messages stand for. Assumes nothing: these are definitions.
-use mathlib.Core.List.{List, map}
-use Prim.Native.Nat.{ℕ}
+use mathlib.Core.List.{map}
 use lib.ListN.{take}
 use Rattle.bundle.specs.Bids.{Bid, Bids}
 use Rattle.bundle.specs.Bundles.{units-of}

@@ -7,7 +7,7 @@ use lib.ListN.{length, take, drop}
 use Rattle.std.specs.Joined.{joined}
 use Rattle.std.specs.declared.option.Option.{Option}
 use Rattle.std.specs.declared.option.Option.the-variants.{Some, None}
-use Rattle.bundle.specs.Bids.{Bid, Bids}
+use Rattle.bundle.specs.Bids.{Bid}
 use Rattle.sheets.specs.Reading.{Submission}
 
 -- a number in four bytes, low byte first

@@ -1,8 +1,7 @@
 // Writes a message.
 ghost use mathlib.Core.Path.{_≡_};
-ghost use mathlib.Core.List.{map};
 ghost use Prim.Native.Nat.{_+_, _≤_};
-ghost use lib.ListN.{length, take};
+ghost use lib.ListN.{length};
 ghost use Rattle.std.specs.Joined.{joined};
 ghost use Rattle.sheets.specs.Sheets.{bid-of, bids-of, submission-of};
 ghost use Rattle.sheets.specs.Writing.{u32-bytes, line-bytes, message-bytes, over, written, written-size};

@@ -1,7 +1,6 @@
 use mathlib.Core.Path.{sym, ap}
 use mathlib.Core.Logic.{inr}
 use native.Mathlib.Omega.{arith}
-use lib.ListN.{length}
 use Rattle.std.proofs.shelf.Lists.{length-map}
 use Rattle.bundle.proofs.Supplies.{lots-wrong}
 use Rattle.sale.specs.Opening.{units-of-lots, lots-checked}

@@ -1,6 +1,6 @@
 use mathlib.Core.Path.{_≡_, sym, ap, _∙_}
-use mathlib.Core.List.{_∷_, _++_, append-nil}
-use Prim.Native.Nat.{_-_, _≤_, _<_}
+use mathlib.Core.List.{_++_, append-nil}
+use Prim.Native.Nat.{_-_}
 use native.Mathlib.Omega.{arith}
 use lib.ListN.{length, take, drop}
 use Rattle.std.proofs.shelf.Lists.{drop-set-lt}

@@ -9,7 +9,7 @@ use Rattle.std.specs.declared.result.Result.the-variants.{Ok}
 use Rattle.bundle.proofs.Checks.{then-ok}
 use Rattle.book.proofs.Steps.{length-answers}
 use Rattle.sale.specs.States.{state-of, after, replies}
-use Rattle.session.specs.Session.{Outcome, opening-in, messages-in, run, ran, noted}
+use Rattle.session.specs.Session.{opening-in, messages-in, run, ran, noted}
 use Rattle.session.proofs.running.run.Needs as need
 
 pub returns-in-Ok : need.returns-in-Ok

@@ -1,5 +1,5 @@
 use mathlib.Core.Path.{_≡_, sym, ap, _∙_}
-use Prim.Native.Nat.{min, _+_, _≤_, _<_}
+use Prim.Native.Nat.{min, _+_}
 use native.Mathlib.Omega.{arith}
 use lib.ListN.{length, length-set, length-replicate, take, drop}
 use Rattle.std.proofs.shelf.Lists.{take-all}

@@ -1,13 +1,12 @@
 use mathlib.Core.Path.{_≡_, sym, ap, _∙_}
-use mathlib.Core.Bool.{true, false}
-use Prim.Native.Nat.{_<_, _+_}
+use Prim.Native.Nat.{_<_}
 use native.Mathlib.Omega.{arith}
 use lib.Dec.{ltb}
 use lib.ListN.{length, getD, take}
 use Rattle.std.proofs.shelf.Lists.{length-map}
 use Rattle.std.proofs.shelf.Sums.{countBy-more-yes, countBy-more-no}
 use Rattle.std.proofs.shelf.Tests.{lt-ltb, le-ltb}
-use Rattle.sheets.specs.Sheets.{bid-of, bids-of}
+use Rattle.sheets.specs.Sheets.{bid-of}
 use Rattle.book.specs.Books.{entries, entries-of, standing}
 use Rattle.book.specs.Posting.{Entry, no-entry}
 use Rattle.book.proofs.Entries.{length-entries, bids-entry}

@@ -1,5 +1,5 @@
 use mathlib.Core.Path.{_≡_}
-use lib.ListN.{length, take}
+use lib.ListN.{take}
 use Prim.Native.Nat.{_≤_}
 use Rattle.book.specs.Books.{entries, standing}
 use Rattle.book.proofs.state.Book.standing.Given as given

@@ -1,12 +1,10 @@
 use mathlib.Core.Path.{_≡_, sym, ap, _∙_}
 use mathlib.Core.List.{[], _∷_, _++_}
 use mathlib.Core.Logic.{_⊎_, inl, inr, ⊎-elim, _≢_}
-use Prim.Native.Nat.{_+_, _<_, _≤_}
 use native.Mathlib.Omega.{arith}
-use lib.ListN.{length, length-set, getD, set, take}
+use lib.ListN.{length, length-set, getD, set}
 use Rattle.std.proofs.shelf.Lists.{getD-set-other, getD-set-same, take-more-set, take-more, take-all}
 use Rattle.std.proofs.shelf.Tests.{cases-eq}
-use Rattle.std.specs.declared.option.Option.the-variants.{Some, None}
 use Rattle.std.specs.declared.result.Result.the-variants.{Ok}
 use Rattle.bundle.specs.Reserves.{prices-of, priced-but}
 use Rattle.bundle.proofs.Supplies.{overpriced-here, overpriced-next, overpriced-none}

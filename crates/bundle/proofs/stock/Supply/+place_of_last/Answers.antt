@@ -1,10 +1,10 @@
-use mathlib.Core.Path.{_≡_, sym, ap, _∙_}
-use Prim.Native.Nat.{ℕ, _+_, _*_, _-_, _≤_, _<_}
+use mathlib.Core.Path.{_≡_, sym, _∙_}
+use Prim.Native.Nat.{ℕ, _+_, _*_, _-_, _≤_}
 use native.Mathlib.Omega.{arith}
-use lib.ListN.{length, drop, getD}
+use lib.ListN.{drop, getD}
 use Rattle.std.proofs.shelf.Bits.{mul-le}
 use Rattle.bundle.specs.Stocks.{supply-of}
-use Rattle.bundle.specs.Units.{place, bundles}
+use Rattle.bundle.specs.Units.{bundles}
 use Rattle.bundle.proofs.Padding.{length-units, getD-units}
 use Rattle.bundle.proofs.Steps.{place-step, place-end, bundles-drop, place-small}
 use Rattle.bundle.proofs.stock.Supply.+place_of_last.Needs as need

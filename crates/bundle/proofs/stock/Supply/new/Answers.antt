@@ -1,11 +1,10 @@
-use mathlib.Core.Path.{_≡_, sym, ap, _∙_}
+use mathlib.Core.Path.{sym, ap, _∙_}
 use mathlib.Core.Logic.{inl}
-use Prim.Native.Nat.{_≤_}
 use native.Mathlib.Omega.{arith}
 use lib.ListN.{length}
-use Rattle.std.specs.declared.option.Option.the-variants.{Some, None}
+use Rattle.std.specs.declared.option.Option.the-variants.{Some}
 use Rattle.bundle.specs.Bundles.{units-of}
-use Rattle.bundle.specs.Supplies.{Sold, supply-in}
+use Rattle.bundle.specs.Supplies.{supply-in}
 use Rattle.bundle.proofs.Padding.{length-units, made-units}
 use Rattle.bundle.proofs.Supplies.{lots-wrong, lots-right, sold-if}
 use Rattle.bundle.proofs.stock.Supply.new.Needs as need

@@ -1,7 +1,6 @@
-use mathlib.Core.Path.{_≡_, sym, ap, _∙_}
-use Prim.Native.Nat.{_≤_}
+use mathlib.Core.Path.{sym, ap, _∙_}
 use native.Mathlib.Omega.{arith}
-use lib.ListN.{length, take, set}
+use lib.ListN.{take}
 use lib.Seq.{take-set-lt}
 use Rattle.std.proofs.shelf.Lists.{set-past}
 use Rattle.bundle.specs.Bundles.{units-of}
