@@ -1,13 +1,13 @@
 -- What the book promises. Assumes nothing: these are definitions and statements.
 use mathlib.Core.Path.{_≡_}
 use mathlib.Core.Logic.{_⊎_}
-use mathlib.Core.List.{List, [], _∷_}
+use mathlib.Core.List.{List, [], _∷_, map}
 use Prim.Native.Nat.{ℕ, _≤_}
 use lib.ListN.{length, getD}
 use Rattle.std.specs.shelf.Lists.{All}
 use Rattle.sheets.specs.Allowed.{Allowed}
 use Rattle.sheets.specs.Reading.{u32-at}
-use Rattle.book.specs.Posting.{Entry, no-entry, posts, told, own}
+use Rattle.book.specs.Posting.{Entry, no-entry, fresh, posts, told, own}
 
 -- the same messages but for their order
 pub data Shuffled : List (List ℕ) → List (List ℕ) → Type 0 where
@@ -51,6 +51,10 @@ Place-own =
 abbrev pub All-allowed : List ℕ → List Entry → Type 0
 All-allowed supply es = All (λ (e : Entry). Allowed supply (e .account) (e .bids)) es
 
--- and stays so, whatever comes in
+-- what is allowed stays so, whatever comes in
 abbrev pub Stays-allowed : Type 0
 Stays-allowed = (supply : List ℕ) (es : List Entry) (ms : List (List ℕ)) → All-allowed supply es → All-allowed supply (posts supply es ms)
+
+-- so every sheet is allowed in a book that was opened with no message yet, whatever came in since
+abbrev pub Always-allowed : Type 0
+Always-allowed = (supply accounts : List ℕ) (ms : List (List ℕ)) → All-allowed supply (posts supply (map fresh accounts) ms)

@@ -1,5 +1,5 @@
 // The promises of the book.
-ghost use Rattle.book.specs.Promises.{Order-free, Told-own, Place-own, Stays-allowed};
+ghost use Rattle.book.specs.Promises.{Order-free, Told-own, Place-own, Stays-allowed, Always-allowed};
 
 // The order in which messages come does not matter, where no farm sends two under one number.
 pub fn order_free_stands() -> u8
@@ -22,9 +22,16 @@ pub fn place_own_stands() -> u8
     0
 }
 
-// Every sheet in the book is allowed for its farm.
+// Sheets that are allowed for their farms stay so, whatever comes in.
 pub fn stays_allowed_stands() -> u8
     ensures { λ _. ⌜ Stays-allowed ⌝ }
+{
+    0
+}
+
+// So every sheet is allowed for its farm, in a book that was opened with no message yet.
+pub fn always_allowed_stands() -> u8
+    ensures { λ _. ⌜ Always-allowed ⌝ }
 {
     0
 }

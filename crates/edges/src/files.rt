@@ -1,4 +1,5 @@
 // Whole files, and files that are cut short.
+use crate::answers::told;
 use book::Answer;
 use session::RunRefusal;
 use session::message_count;
@@ -19,13 +20,6 @@ const CUTS: [(usize, usize, u8, usize); 6] = [
     (49, 2, 7, 6),
     (50, 3, 2, 0),
 ];
-
-fn told(answer: Answer) -> (u8, usize) {
-    match answer {
-        Answer::Taken => (0, 0),
-        Answer::Refused(refusal) => (refusal.number(), refusal.place()),
-    }
-}
 
 fn refused(file: &[u8], row: &mut [Answer]) -> (u8, usize) {
     match run(file, row) {

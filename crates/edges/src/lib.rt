@@ -1,5 +1,7 @@
 // Tests at the edges of the rules: each refusal on both sides of its limit.
 #[cfg(test)]
+mod answers;
+#[cfg(test)]
 mod bundles;
 #[cfg(test)]
 mod files;

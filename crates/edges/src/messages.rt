@@ -1,5 +1,5 @@
 // Messages on both sides of each limit.
-use book::Answer;
+use crate::answers::told;
 use bundle::Bundle;
 use sale::Lot;
 use sale::OpeningRefusalDebug;
@@ -60,13 +60,6 @@ fn sale() -> Result<Sale, Fail> {
         },
     ];
     Ok(Sale::open(&lots, &[100, 50], 0)?)
-}
-
-fn told(answer: Answer) -> (u8, usize) {
-    match answer {
-        Answer::Taken => (0, 0),
-        Answer::Refused(refusal) => (refusal.number(), refusal.place()),
-    }
 }
 
 #[test]

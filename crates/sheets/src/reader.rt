@@ -156,11 +156,7 @@ fn read_sheet(
     requires long { ⌜ 6 + count * size ≤ length (now bytes) ⌝ }
     ensures { λ r. ⌜ viewed bids-of r ≡ lines-in (supply-of (now (supply .entry))) account (now (bytes .entry)) 6 count ⌝ }
 {
-    let none = Line {
-        worth: 0,
-        units: Bundle::empty(0),
-    };
-    let mut lines = [none; 32];
+    let mut lines = Sheet::new().lines;
     let mut at = 6;
     for k in 0..count {
         let line = read_line(bytes, at, supply, account)?;
