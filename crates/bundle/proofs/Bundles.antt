@@ -2,15 +2,16 @@
 use mathlib.Core.Path.{_≡_, refl, sym, _∙_, ap}
 use mathlib.Core.Bool.{true}
 use mathlib.Core.List.{List, [], _∷_}
+use mathlib.Core.Logic.{_⊎_, inl, inr}
 use Prim.Native.Nat.{ℕ, zero, suc, _+_, _*_, _-_, _/_, _%_, _≤_, _<_}
-use native.Mathlib.Nat.{mul-add, mul-comm, mul-le-mul-left, mod-lt, mod-add-div, div-lt-iff-lt-mul}
+use native.Mathlib.Nat.{add-mul, mul-add, mul-comm, mul-le-mul-left, mod-lt, mod-add-div, div-add-mod', div-lt-iff-lt-mul, zero-mod, zero-div}
 use native.Mathlib.Omega.{arith}
 use lib.Dec.{leb, eqb}
-use lib.ListN.{length, getD}
+use lib.ListN.{length, getD, replicate}
 use lib.Arith.{digits-lt, digits-div, digits-mod}
 use Rattle.std.proofs.shelf.Lists.{ext-getD}
-use Rattle.std.proofs.shelf.Tests.{leb-true, le-leb, eqb-true, eq-eqb, and-parts, and-from}
-use Rattle.bundle.specs.Units.{plus, less, Within, within, place, bundles, bundle-at, Places-met-once}
+use Rattle.std.proofs.shelf.Tests.{leb-true, le-leb, eqb-true, eq-eqb, lt-ltb, le-ltb, and-parts, and-from, cases-lt, cond-true, cond-false}
+use Rattle.bundle.specs.Units.{plus, less, Within, within, place, bundles, bundle-at, next, Places-met-once, Next-place}
 
 pub length-less : (x y : List ℕ) → length (less x y) ≡ length x
 unfolding less
@@ -212,6 +213,22 @@ bundle-at-place s x l w =
     place-same s (bundle-at s (place s x)) x (length-bundle-at s (place s x)) l (bundle-at-within s (place s x)) w
     (place-bundle-at s (place s x) (place-below s x w))
 
+-- the first place and the last
+pub bundle-at-none : (s : List ℕ) → bundle-at s 0 ≡ replicate (length s) 0
+unfolding bundle-at
+bundle-at-none [] = refl
+bundle-at-none (s ∷ ss) = rw (zero-mod (s + 1), zero-div (s + 1), bundle-at-none ss)
+
+place-all : (s : List ℕ) → place s s + 1 ≡ bundles s
+unfolding place bundles
+place-all [] = refl
+place-all (s ∷ ss) = omega (arith, place-all ss, mul-add (s + 1) (place ss ss) 1, ap (λ n. (s + 1) * n) (place-all ss))
+
+pub bundle-at-last : (s : List ℕ) → bundle-at s (bundles s - 1) ≡ s
+bundle-at-last s =
+    let last : bundles s - 1 ≡ place s s = omega (arith, place-all s) in
+    ap (bundle-at s) last ∙ bundle-at-place s s refl (within-refl s)
+
 pub places-met-once : Places-met-once
 places-met-once s p h =
     record {
@@ -220,3 +237,28 @@ places-met-once s p h =
       here = place-bundle-at s p h;
       only = λ y l w e. place-same s y (bundle-at s p) l (length-bundle-at s p) w (bundle-at-within s p) (e ∙ sym (place-bundle-at s p h));
     }
+
+-- a place's first digit, and what is left of the place, at the place after it
+digit-more : (p n : ℕ) → p % (n + 1) < n → ((p + 1) % (n + 1) ≡ p % (n + 1) + 1) × ((p + 1) / (n + 1) ≡ p / (n + 1))
+digit-more p n h =
+    let r = p % (n + 1) in
+    let q = p / (n + 1) in
+    let is : q * (n + 1) + (r + 1) ≡ p + 1 = omega (arith, div-add-mod' p (n + 1)) in
+    let k : r + 1 < n + 1 = omega arith in
+    (rw (← is) (digits-mod q k), rw (← is) (digits-div q k))
+
+digit-over : (p n : ℕ) → n ≤ p % (n + 1) → ((p + 1) % (n + 1) ≡ 0) × ((p + 1) / (n + 1) ≡ p / (n + 1) + 1)
+digit-over p n h =
+    let q = p / (n + 1) in
+    let k : 0 < n + 1 = omega arith in
+    let is : (q + 1) * (n + 1) + 0 ≡ p + 1 = omega (arith, div-add-mod' p (n + 1), mod-lt p k, add-mul q 1 (n + 1)) in
+    (rw (← is) (digits-mod (q + 1) k), rw (← is) (digits-div (q + 1) k))
+
+pub next-place : Next-place
+unfolding next bundle-at
+next-place [] p = refl
+next-place (s ∷ ss) p = go (next-place ss (p / (s + 1))) (cases-lt (p % (s + 1)) s)
+  where
+    go : next ss (bundle-at ss (p / (s + 1))) ≡ bundle-at ss (p / (s + 1) + 1) → (p % (s + 1) < s) ⊎ (s ≤ p % (s + 1)) → next (s ∷ ss) (bundle-at (s ∷ ss) p) ≡ bundle-at (s ∷ ss) (p + 1)
+    go e (inl h) = let d = digit-more p s h in cond-true _ _ _ (lt-ltb (p % (s + 1)) s h) ∙ rw (d .0, d .1)
+    go e (inr h) = let d = digit-over p s h in cond-false _ _ _ (le-ltb (p % (s + 1)) s h) ∙ rw (d .0, d .1, e)

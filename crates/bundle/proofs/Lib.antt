@@ -3,3 +3,4 @@ pub mod Checks
 pub mod Padding
 pub mod Steps
 pub mod Supplies
+pub mod Worths

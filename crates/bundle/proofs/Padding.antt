@@ -42,6 +42,10 @@ pub getD-units : (b : Bundle) (j : ℕ) → getD (units-of b) j 0 ≡ getD (b .c
 unfolding units-of
 getD-units b j = getD-front (b .counts) (b .lots) (padding b) j
 
+pub length-prices : (r : Reserve) → length (prices-of r) ≡ r .lots
+unfolding prices-of
+length-prices r = length-front (r .prices) (r .lots) (r .long, r .few, r .padded)
+
 pub getD-prices : (r : Reserve) (j : ℕ) → getD (prices-of r) j 0 ≡ getD (r .prices) j 0
 unfolding prices-of
 getD-prices r j = getD-front (r .prices) (r .lots) (r .long, r .few, r .padded) j

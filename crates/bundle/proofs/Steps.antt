@@ -1,13 +1,16 @@
 -- One lot more, for each of the definitions of lists of counts. Assumes nothing.
 use mathlib.Core.Path.{_≡_, refl, sym, ap, _∙_}
 use mathlib.Core.List.{List, [], _∷_, _++_}
-use Prim.Native.Nat.{ℕ, zero, suc, _+_, _*_, _/_, _%_, _<_, _≤_}
+use mathlib.Core.Logic.{⊎-elim}
+use Prim.Native.Nat.{ℕ, zero, suc, _+_, _*_, _/_, _%_, _<_, _≤_, min}
 use native.Mathlib.Omega.{arith}
 use native.Mathlib.Nat.{add-mul, mul-assoc, mul-left-comm}
+use native.Mathlib.Numerals.{add-one}
 use lib.ListN.{length, getD, set, take, drop}
 use Rattle.std.proofs.shelf.Bits.{mul-le}
-use Rattle.std.proofs.shelf.Lists.{drop-more, drop-all, take-more-set, append-assoc, append-nil}
-use Rattle.bundle.specs.Units.{place, bundles, bundle-at}
+use Rattle.std.proofs.shelf.Lists.{drop-more, drop-all, drop-set-lt, take-all, take-append-drop, take-more-set, set-split, append-assoc, append-nil}
+use Rattle.std.proofs.shelf.Tests.{lt-ltb, le-ltb, cases-lt, cond-true, cond-false}
+use Rattle.bundle.specs.Units.{place, bundles, bundle-at, next}
 use Rattle.bundle.proofs.Bundles.{bundles-pos}
 
 pub place-step : (ss xs : List ℕ) (i : ℕ) → i < length ss → i < length xs
@@ -79,3 +82,28 @@ bundle-at-step cs ss i p v q h k e f = rw (take-more-set cs i v h, drop-more ss 
 pub bundle-at-end : (cs ss : List ℕ) (i p : ℕ) → length ss ≤ i → take i cs ++ bundle-at (drop i ss) p ≡ take i cs
 unfolding bundle-at
 bundle-at-end cs ss i p k = rw (drop-all i ss k, append-nil)
+
+-- us holds the counts so far: what is done of them, and what is left to do
+pub next-room : (ss us : List ℕ) (i : ℕ) → i < length ss → i < length us → getD us i 0 < getD ss i 0
+    → set us i (getD us i 0 + 1) ≡ take i us ++ next (drop i ss) (drop i us)
+unfolding next
+next-room ss us i h k g = rw (drop-more ss i 0 h, drop-more us i 0 k, cond-true _ _ _ (lt-ltb (getD us i 0) (getD ss i 0) g), add-one i) (set-split us i (getD us i 0 + 1) k)
+
+pub next-carry : (ss us : List ℕ) (i : ℕ) → i < length ss → i < length us → getD ss i 0 ≤ getD us i 0
+    → take (i + 1) (set us i 0) ++ next (drop (i + 1) ss) (drop (i + 1) (set us i 0)) ≡ take i us ++ next (drop i ss) (drop i us)
+unfolding next
+next-carry ss us i h k g =
+    rw (take-more-set us i 0 k, drop-set-lt (i + 1) us i 0 (omega arith), drop-more ss i 0 h, drop-more us i 0 k, cond-false _ _ _ (le-ltb (getD us i 0) (getD ss i 0) g), append-assoc)
+
+next-nil : (ss : List ℕ) → next ss [] ≡ []
+unfolding next
+next-nil [] = refl
+next-nil (s ∷ ss) = refl
+
+pub next-end : (ss us : List ℕ) (i : ℕ) → min (length ss) (length us) ≤ i → take i us ++ next (drop i ss) (drop i us) ≡ us
+unfolding next
+next-end ss us i h =
+    ⊎-elim
+    (λ g. let k : length us ≤ i = omega arith in rw (drop-all i us k, take-all i us k, next-nil (drop i ss)) (append-nil us))
+    (λ g. rw (drop-all i ss g) (take-append-drop i us))
+    (cases-lt i (length ss))

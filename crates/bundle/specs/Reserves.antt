@@ -1,7 +1,7 @@
 -- The price of a unit of each lot below which the company keeps it. Assumes nothing: these are definitions.
 use mathlib.Core.Bool.{_||_, cond}
 use mathlib.Core.List.{List, [], _∷_}
-use Prim.Native.Nat.{ℕ, _+_}
+use Prim.Native.Nat.{ℕ, _+_, _*_}
 use lib.Dec.{ltb}
 use lib.ListN.{take}
 use Rattle.std.specs.declared.option.Option.{Option}
@@ -26,3 +26,9 @@ priced-but (Some j) ps = Err j
 -- the reserve, or the first lot that is wrong
 abbrev pub reserve-in : List ℕ → Result (List ℕ) ℕ
 reserve-in ps = priced-but (overpriced-lot ps 0) ps
+
+-- what a bundle is worth at these prices
+unfoldable pub priced : List ℕ → List ℕ → ℕ
+priced [] xs = 0
+priced (p ∷ ps) [] = 0
+priced (p ∷ ps) (x ∷ xs) = p * x + priced ps xs

@@ -1,9 +1,9 @@
 -- Bundles as lists of counts, one count for each lot; a missing place counts 0. Assumes nothing: these are definitions and statements.
 use mathlib.Core.Path.{_≡_}
-use mathlib.Core.Bool.{Bool, true, _&&_}
+use mathlib.Core.Bool.{Bool, true, _&&_, cond}
 use mathlib.Core.List.{List, [], _∷_}
 use Prim.Native.Nat.{ℕ, _+_, _*_, _-_, _/_, _%_, _≤_, _<_}
-use lib.Dec.{leb, eqb}
+use lib.Dec.{leb, eqb, ltb}
 use lib.ListN.{length, getD}
 
 -- xs and ys added place by place
@@ -44,6 +44,12 @@ unfoldable pub bundle-at : List ℕ → ℕ → List ℕ
 bundle-at [] p = []
 bundle-at (s ∷ ss) p = (p % (s + 1)) ∷ bundle-at ss (p / (s + 1))
 
+-- the bundle at the next place: one unit more of the first lot that has not all its units yet, and none of the lots before it
+unfoldable pub next : List ℕ → List ℕ → List ℕ
+next [] xs = xs
+next (s ∷ ss) [] = []
+next (s ∷ ss) (x ∷ xs) = cond (ltb x s) ((x + 1) ∷ xs) (0 ∷ next ss xs)
+
 -- x is the one bundle within the supply at the place p
 pub record Meets (supply : List ℕ) (p : ℕ) (x : List ℕ) : Type 0 where
   pub long : length x ≡ length supply
@@ -62,3 +68,7 @@ Places-below = (supply x : List ℕ) → Within x supply → place supply x < bu
 -- to take a bundle away that fits subtracts its place
 abbrev pub Place-of-difference : Type 0
 Place-of-difference = (supply x a : List ℕ) → Within a x → place supply (less x a) + place supply a ≡ place supply x
+
+-- the next bundle is the one at the next place
+abbrev pub Next-place : Type 0
+Next-place = (supply : List ℕ) (p : ℕ) → next supply (bundle-at supply p) ≡ bundle-at supply (p + 1)

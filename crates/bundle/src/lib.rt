@@ -12,6 +12,7 @@ pub use prices::Reserve;
 pub use refusals::SupplyRefusal;
 pub use refusals::SupplyRefusalDebug;
 pub use stock::Supply;
+pub use theorems::next_place_stands;
 pub use theorems::place_of_difference_stands;
 pub use theorems::places_below_stands;
 pub use theorems::places_met_once_stands;

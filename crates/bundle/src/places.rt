@@ -10,7 +10,7 @@ ghost use Rattle.bundle.specs.Bundles.{units-of};
 ghost use Rattle.bundle.specs.Checks.{viewed};
 ghost use Rattle.bundle.specs.Stocks.{supply-of, Counted};
 ghost use Rattle.bundle.specs.Supplies.{supply-in};
-ghost use Rattle.bundle.specs.Units.{place, bundles, bundle-at};
+ghost use Rattle.bundle.specs.Units.{place, bundles, bundle-at, next};
 use crate::refusals::SupplyRefusal;
 use crate::stock::Supply;
 use crate::units::Bundle;
@@ -107,5 +107,27 @@ impl Supply {
             counts,
             lots: self.units.lots,
         })
+    }
+
+    // The bundle at the next place: one unit more of the first lot that has not all its units yet, and none of the lots before it.
+    pub fn next(&self, x: &Bundle) -> Bundle
+        ensures { λ r. ⌜ units-of r ≡ next (supply-of (now (self .entry))) (units-of (now (x .entry))) ⌝ }
+    {
+        let mut counts = x.counts;
+        let lots = self.units.lots.min(x.lots);
+        for lot in 0..lots {
+            if counts[lot] < self.units.counts[lot] {
+                counts[lot] += 1;
+                return Bundle {
+                    counts,
+                    lots: x.lots,
+                };
+            }
+            counts[lot] = 0;
+        }
+        Bundle {
+            counts,
+            lots: x.lots,
+        }
     }
 }

@@ -1,9 +1,11 @@
-// The reserve: made and read.
+// The reserve: made and read, and what a bundle is worth at it.
 ghost use mathlib.Core.Path.{_≡_};
 ghost use lib.ListN.{getD};
+ghost use Rattle.bundle.specs.Bundles.{units-of};
 ghost use Rattle.bundle.specs.Checks.{viewed};
-ghost use Rattle.bundle.specs.Reserves.{prices-of, reserve-in};
+ghost use Rattle.bundle.specs.Reserves.{prices-of, reserve-in, priced};
 use crate::prices::Reserve;
+use crate::units::Bundle;
 
 // Cents a unit.
 const MAX_PRICE: u32 = 1_000_000;
@@ -31,5 +33,17 @@ impl Reserve {
         ensures { λ r. ⌜ r ≡ getD (prices-of (now (self .entry))) lot 0 ⌝ }
     {
         if lot < 12 { self.prices[lot] } else { 0 }
+    }
+
+    // What a bundle is worth at these prices.
+    pub fn worth(&self, x: &Bundle) -> u64
+        ensures { λ r. ⌜ r ≡ priced (prices-of (now (self .entry))) (units-of (now (x .entry))) ⌝ }
+    {
+        let mut sum = 0;
+        let lots = self.lots.min(x.lots);
+        for lot in 0..lots {
+            sum += self.prices[lot] as u64 * x.counts[lot] as u64;
+        }
+        sum
     }
 }

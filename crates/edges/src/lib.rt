@@ -2,6 +2,8 @@
 #[cfg(test)]
 mod answers;
 #[cfg(test)]
+mod awards;
+#[cfg(test)]
 mod bundles;
 #[cfg(test)]
 mod files;

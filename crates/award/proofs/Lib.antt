@@ -1,0 +1,5 @@
+pub mod Bounds
+pub mod Picks
+pub mod Reserves
+pub mod Rewrites
+pub mod Samples

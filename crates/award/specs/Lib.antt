@@ -1,0 +1,4 @@
+pub mod Deciding
+pub mod Promises
+pub mod Rows
+pub mod Samples

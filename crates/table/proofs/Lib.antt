@@ -1,0 +1,4 @@
+pub mod Layers
+pub mod Sheets
+pub mod Sweeps
+pub mod TableRows

@@ -1,0 +1,4 @@
+pub mod Offers
+pub mod Promises
+pub mod Refusals
+pub mod Tables
