@@ -1,13 +1,12 @@
 // The first best choice, read from the table.
 ghost use mathlib.Core.Path.{_≡_};
-ghost use mathlib.Core.Bool.{true, _&&_};
+ghost use mathlib.Core.Bool.{true};
 ghost use mathlib.Core.List.{map};
-ghost use Prim.Native.Nat.{ℕ, _+_, _^_, _<_, _≤_};
-ghost use lib.Dec.{eqb};
-ghost use lib.ListN.{length, getD};
+ghost use Prim.Native.Nat.{_+_, _≤_};
+ghost use lib.ListN.{length};
 ghost use Rattle.bundle.specs.Bundles.{units-of};
 ghost use Rattle.bundle.specs.Stocks.{supply-of};
-ghost use Rattle.bundle.specs.Units.{less, within};
+ghost use Rattle.bundle.specs.Units.{within};
 ghost use Rattle.sheets.specs.Sheets.{bid-of, bids-of};
 ghost use Rattle.table.specs.Tables.{auction-of, table-of, onto, entry};
 ghost use Rattle.vcg.specs.Auction.{chosen};

@@ -3,7 +3,7 @@ ghost use mathlib.Core.Path.{_≡_};
 ghost use mathlib.Core.Bool.{cond};
 ghost use lib.ListN.{length};
 ghost use Rattle.std.specs.Results.{isOk};
-ghost use Rattle.bundle.specs.Stocks.{supply-of};
+ghost use Rattle.bundle.specs.Stocks.{bundles-of};
 ghost use Rattle.bundle.specs.Units.{bundles};
 ghost use Rattle.table.specs.Tables.{auction-of, table-of, onto};
 ghost use Rattle.vcg.specs.Optimum.{best-worth, outcome-of};
@@ -28,7 +28,7 @@ pub fn decide(
     award: &mut [u64],
     charges: &mut [u64],
 ) -> Result<u64, AwardRefusal>
-    ensures answer { λ r. ⌜ r ≡ decision (length (now (sheets .entry))) (bundles (supply-of (now (supply .entry)))) (length (now (table .entry))) (length (now (award .entry))) (length (now (charges .entry))) (best-worth (auction-of (now (supply .entry)) (now (reserve .entry)) (now (sheets .entry)))) ⌝ }
+    ensures answer { λ r. ⌜ r ≡ decision (length (now (sheets .entry))) (bundles-of (now (supply .entry))) (length (now (table .entry))) (length (now (award .entry))) (length (now (charges .entry))) (best-worth (auction-of (now (supply .entry)) (now (reserve .entry)) (now (sheets .entry)))) ⌝ }
     ensures table { λ r. ⌜ now (table .exit) ≡ cond (isOk r) (onto (table-of (auction-of (now (supply .entry)) (now (reserve .entry)) (now (sheets .entry)))) (now (table .entry))) (now (table .entry)) ⌝ }
     ensures award { λ r. ⌜ now (award .exit) ≡ cond (isOk r) (outcome-of (auction-of (now (supply .entry)) (now (reserve .entry)) (now (sheets .entry))) .choice) (now (award .entry)) ⌝ }
     ensures charges { λ r. ⌜ now (charges .exit) ≡ cond (isOk r) (outcome-of (auction-of (now (supply .entry)) (now (reserve .entry)) (now (sheets .entry))) .charge) (now (charges .entry)) ⌝ }

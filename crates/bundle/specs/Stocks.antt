@@ -14,6 +14,10 @@ use Rattle.bundle.specs.declared.stock.Supply.{Supply}
 abbrev pub supply-of : Supply → List ℕ
 supply-of s = units-of (s .units)
 
+-- how many bundles there are within it
+abbrev pub bundles-of : Supply → ℕ
+bundles-of s = bundles (supply-of s)
+
 -- the number of bundles, or the first lot that cannot be sold
 abbrev pub Counted : List ℕ → Result ℕ ℕ → Type 0
 Counted us (Ok n) = (unsold-lot us 0 1 ≡ None) × (n ≡ bundles us)

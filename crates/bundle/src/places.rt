@@ -8,7 +8,7 @@ ghost use Rattle.std.specs.Options.{mapped};
 ghost use Rattle.std.specs.declared.option.Option.the-variants.{Some, None};
 ghost use Rattle.bundle.specs.Bundles.{units-of};
 ghost use Rattle.bundle.specs.Checks.{viewed};
-ghost use Rattle.bundle.specs.Stocks.{supply-of, Counted};
+ghost use Rattle.bundle.specs.Stocks.{supply-of, bundles-of, Counted};
 ghost use Rattle.bundle.specs.Supplies.{supply-in};
 ghost use Rattle.bundle.specs.Units.{place, bundles, bundle-at, next};
 use crate::refusals::SupplyRefusal;
@@ -63,7 +63,7 @@ impl Supply {
 
     // How many bundles there are within the supply.
     pub fn bundles(&self) -> usize
-        ensures { λ r. ⌜ r ≡ bundles (supply-of (now (self .entry))) ⌝ }
+        ensures { λ r. ⌜ r ≡ bundles-of (now (self .entry)) ⌝ }
     {
         self.total
     }
@@ -91,7 +91,7 @@ impl Supply {
 
     // The bundle at a place; `None` past the last.
     pub fn bundle_at(&self, place: usize) -> Option<Bundle>
-        ensures { λ r. ⌜ mapped units-of r ≡ cond (ltb place (bundles (supply-of (now (self .entry))))) (Some (bundle-at (supply-of (now (self .entry))) place)) None ⌝ }
+        ensures { λ r. ⌜ mapped units-of r ≡ cond (ltb place (bundles-of (now (self .entry)))) (Some (bundle-at (supply-of (now (self .entry))) place)) None ⌝ }
     {
         if place >= self.total {
             return None;

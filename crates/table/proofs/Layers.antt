@@ -1,7 +1,7 @@
 -- A row written into the table in front of those that are filled. Assumes nothing.
 use mathlib.Core.Path.{_≡_, refl, sym, ap, _∙_}
 use mathlib.Core.List.{List, [], _∷_, _++_, map}
-use Prim.Native.Nat.{ℕ, zero, suc, _+_, _-_, _*_, _^_, _≤_, _<_}
+use Prim.Native.Nat.{ℕ, suc, _+_, _-_, _*_, _^_, _≤_, _<_}
 use native.Mathlib.Nat.{add-mul}
 use native.Mathlib.Numerals.{add-one}
 use native.Mathlib.Omega.{arith}
@@ -9,7 +9,7 @@ use borrow.Rule.Slice.PartMut.{putMid, same-len-mid}
 use lib.ListN.{length, getD, set, take, drop}
 use Rattle.std.specs.Iters.{counting}
 use Rattle.std.proofs.shelf.Bits.{mul-le}
-use Rattle.std.proofs.shelf.Lists.{append-nil, drop-all, drop-at, drop-drop, drop-more, drop-set, getD-drop, getD-map, length-append, length-drop, length-map, length-take-le, set-split, take-rest}
+use Rattle.std.proofs.shelf.Lists.{append-nil, drop-all, drop-at, drop-drop, drop-more, drop-set, getD-drop, getD-map, length-drop, length-map, length-take-le, set-split, take-rest}
 use Rattle.bundle.specs.Bids.{Bids}
 use Rattle.bundle.specs.Units.{bundles, bundle-at, place, Within}
 use Rattle.bundle.proofs.Bundles.{length-bundle-at, bundle-at-within, place-below, within-refl}

@@ -1,12 +1,10 @@
 -- What the rows know of sheets: how many lines, and how much one may state. Assumes nothing.
-use mathlib.Core.Path.{_≡_, sym, ap, _∙_}
+use mathlib.Core.Path.{_≡_, ap}
 use mathlib.Core.List.{List, [], _∷_, map}
-use mathlib.Core.Logic.{⊎-elim}
-use Prim.Native.Nat.{ℕ, zero, suc, _+_, _^_, _≤_, _<_}
+use Prim.Native.Nat.{ℕ, zero, suc, _^_, _≤_}
 use native.Mathlib.Omega.{arith}
 use lib.ListN.{length, getD, take}
 use Rattle.std.proofs.shelf.Lists.{length-map, length-take-le}
-use Rattle.bundle.specs.Bids.{Bid, Bids}
 use Rattle.sheets.specs.Sheets.{bid-of, bids-of}
 use Rattle.sheets.specs.declared.parts.Line.{Line}
 use Rattle.sheets.specs.declared.parts.Sheet.{Sheet}

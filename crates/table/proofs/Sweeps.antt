@@ -1,9 +1,8 @@
 -- A sweep over the lines of a sheet for one bundle: its start, one line more, and its end. Assumes nothing.
-use mathlib.Core.Path.{_≡_, refl, sym, ap, _∙_}
+use mathlib.Core.Path.{_≡_, sym, ap, _∙_}
 use mathlib.Core.Bool.{true, false}
 use mathlib.Core.List.{List, [], _∷_, _++_, map}
 use Prim.Native.Nat.{ℕ, _+_, _-_, _≤_, _<_, max}
-use native.Mathlib.Omega.{arith}
 use lib.ListN.{length, getD, set, take, drop}
 use Rattle.std.proofs.shelf.Lists.{drop-more, drop-all, take-rest, getD-take, getD-map, take-more-set, map-more}
 use Rattle.std.proofs.shelf.Tests.{cond-true, cond-false}

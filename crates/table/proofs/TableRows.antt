@@ -11,7 +11,6 @@ use Rattle.std.proofs.shelf.Lists.{append-nil, length-append, getD-append-left,
 use Rattle.bundle.specs.Bids.{Bids}
 use Rattle.bundle.specs.Units.{place, bundles, bundle-at, Within}
 use Rattle.bundle.proofs.Bundles.{length-bundle-at, bundle-at-within, bundle-at-place, place-below, place-bundle-at}
-use Rattle.vcg.specs.Auction.{Auction}
 use Rattle.vcg.specs.Optimum.{best-among, optimum, Most}
 use Rattle.vcg.proofs.Alike.{best-among-like, optimum-like}
 use Rattle.vcg.proofs.Optimal.{optimum-is-most}

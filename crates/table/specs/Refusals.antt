@@ -1,5 +1,5 @@
 -- When a table is filled. Assumes nothing: these are definitions.
-use mathlib.Core.Bool.{cond, not}
+use mathlib.Core.Bool.{cond}
 use Prim.Native.Nat.{ℕ, _+_, _*_}
 use lib.Dec.{ltb, eqb}
 use Rattle.std.specs.declared.result.Result.{Result}

@@ -1,7 +1,9 @@
 -- The table of best worths. Assumes nothing: these are definitions.
+use mathlib.Core.Bool.{_&&_, cond}
 use mathlib.Core.List.{List, [], _∷_, _++_, map}
-use Prim.Native.Nat.{ℕ}
-use lib.ListN.{length, getD, drop}
+use Prim.Native.Nat.{ℕ, _+_, _*_}
+use lib.Dec.{leb, ltb}
+use lib.ListN.{length, getD, take, drop}
 use Rattle.std.specs.Iters.{counting}
 use Rattle.bundle.specs.Bids.{Bids}
 use Rattle.bundle.specs.Reserves.{prices-of, priced}
@@ -32,6 +34,15 @@ at-reserve supply prices bidders = record { supply = supply; keep = priced price
 
 abbrev pub auction-of : Supply → Reserve → List Sheet → Auction
 auction-of s r sheets = at-reserve (supply-of s) (prices-of r) (map bids-of sheets)
+
+-- a table from row k on
+abbrev pub from-row : List ℕ → ℕ → List ℕ → List ℕ
+from-row supply k t = drop (k * bundles supply) t
+
+-- the row below that of a farm, where there are so many; nothing where there is no such farm, or the table is too short
+abbrev pub row-below : ℕ → List ℕ → ℕ → List ℕ → List ℕ
+row-below farms supply farm t =
+    cond (ltb farm farms && (ltb farm 48 && leb ((farm + 2) * bundles supply) (length t))) (take (bundles supply) (from-row supply (farm + 1) t)) []
 
 -- new written over the front of old
 abbrev pub onto : List ℕ → List ℕ → List ℕ

@@ -2,18 +2,18 @@
 ghost use mathlib.Core.Path.{_≡_};
 ghost use mathlib.Core.Bool.{cond};
 ghost use mathlib.Core.List.{_++_, map};
-ghost use Prim.Native.Nat.{ℕ, _+_, _*_, _^_, _<_, _≤_};
-ghost use lib.ListN.{length, getD, take, drop};
+ghost use Prim.Native.Nat.{_+_, _*_, _<_, _≤_};
+ghost use lib.ListN.{length, take};
 ghost use Rattle.std.specs.Iters.{counting};
 ghost use Rattle.std.specs.Results.{isOk};
 ghost use Rattle.bundle.specs.Reserves.{prices-of, priced};
-ghost use Rattle.bundle.specs.Stocks.{supply-of};
+ghost use Rattle.bundle.specs.Stocks.{supply-of, bundles-of};
 ghost use Rattle.bundle.specs.Units.{bundles};
 ghost use Rattle.sheets.specs.Sheets.{bids-of};
 ghost use Rattle.vcg.specs.Optimum.{optimum, worth-without};
 ghost use Rattle.table.specs.Offers.{Small-row};
 ghost use Rattle.table.specs.Refusals.{fill-answer, marginals-answer};
-ghost use Rattle.table.specs.Tables.{row, rows, table-of, auction-of, onto, entry};
+ghost use Rattle.table.specs.Tables.{row, rows, table-of, auction-of, from-row, onto, entry};
 use crate::refusals::TableRefusal;
 use crate::rows::fill_row;
 use crate::rows::keep_row;
@@ -26,9 +26,9 @@ const MAX_FARMS: usize = 48;
 // Writes the row of each of these sheets, from the last to the first, by the row after them.
 fn fill_rows(supply: &Supply, sheets: &[Sheet], table: &mut [u64])
     requires few { ⌜ length (now sheets) ≤ 48 ⌝ }
-    requires long { ⌜ (length (now sheets) + 1) * bundles (supply-of (now supply)) ≤ length (now table) ⌝ }
-    requires small { ⌜ Small-row (bundles (supply-of (now supply))) (length (now sheets)) (now table) ⌝ }
-    ensures { λ _. ⌜ now (table .exit) ≡ onto (rows (supply-of (now (supply .entry))) (entry (supply-of (now (supply .entry))) (drop (length (now (sheets .entry)) * bundles (supply-of (now (supply .entry)))) (now (table .entry)))) (map bids-of (now (sheets .entry)))) (now (table .entry)) ⌝ }
+    requires long { ⌜ (length (now sheets) + 1) * bundles-of (now supply) ≤ length (now table) ⌝ }
+    requires small { ⌜ Small-row (bundles-of (now supply)) (length (now sheets)) (now table) ⌝ }
+    ensures { λ _. ⌜ now (table .exit) ≡ onto (rows (supply-of (now (supply .entry))) (entry (supply-of (now (supply .entry))) (from-row (supply-of (now (supply .entry))) (length (now (sheets .entry))) (now (table .entry)))) (map bids-of (now (sheets .entry)))) (now (table .entry)) ⌝ }
 {
     let row = supply.bundles();
     let mut left = sheets.len();
@@ -46,7 +46,7 @@ pub fn fill(
     sheets: &[Sheet],
     table: &mut [u64],
 ) -> Result<(), TableRefusal>
-    ensures answer { λ r. ⌜ r ≡ fill-answer (length (now (sheets .entry))) (bundles (supply-of (now (supply .entry)))) (length (now (table .entry))) ⌝ }
+    ensures answer { λ r. ⌜ r ≡ fill-answer (length (now (sheets .entry))) (bundles-of (now (supply .entry))) (length (now (table .entry))) ⌝ }
     ensures filled { λ r. ⌜ now (table .exit) ≡ cond (isOk r) (onto (table-of (auction-of (now (supply .entry)) (now (reserve .entry)) (now (sheets .entry)))) (now (table .entry))) (now (table .entry)) ⌝ }
 {
     let farms = sheets.len();
@@ -66,10 +66,10 @@ pub fn fill(
 fn worth_without_farm(supply: &Supply, sheets: &[Sheet], farm: usize, table: &mut [u64]) -> u64
     requires few { ⌜ length (now sheets) ≤ 48 ⌝ }
     requires known { ⌜ farm < length (now sheets) ⌝ }
-    requires long { ⌜ (farm + 2) * bundles (supply-of (now supply)) ≤ length (now table) ⌝ }
-    requires small { ⌜ Small-row (bundles (supply-of (now supply))) (farm + 1) (now table) ⌝ }
-    ensures value { λ r. ⌜ r ≡ optimum (entry (supply-of (now (supply .entry))) (drop ((farm + 1) * bundles (supply-of (now (supply .entry)))) (now (table .entry)))) (take farm (map bids-of (now (sheets .entry)))) (supply-of (now (supply .entry))) ⌝ }
-    ensures after { λ _. ⌜ drop ((farm + 1) * bundles (supply-of (now (supply .entry)))) (now (table .exit)) ≡ drop ((farm + 1) * bundles (supply-of (now (supply .entry)))) (now (table .entry)) ⌝ }
+    requires long { ⌜ (farm + 2) * bundles-of (now supply) ≤ length (now table) ⌝ }
+    requires small { ⌜ Small-row (bundles-of (now supply)) (farm + 1) (now table) ⌝ }
+    ensures value { λ r. ⌜ r ≡ optimum (entry (supply-of (now (supply .entry))) (from-row (supply-of (now (supply .entry))) (farm + 1) (now (table .entry)))) (take farm (map bids-of (now (sheets .entry)))) (supply-of (now (supply .entry))) ⌝ }
+    ensures after { λ _. ⌜ from-row (supply-of (now (supply .entry))) (farm + 1) (now (table .exit)) ≡ from-row (supply-of (now (supply .entry))) (farm + 1) (now (table .entry)) ⌝ }
 {
     let row = supply.bundles();
     let at = farm * row;
@@ -89,8 +89,8 @@ fn fill_each(
     without: &mut [u64],
 )
     requires few { ⌜ length (now sheets) ≤ 48 ⌝ }
-    requires long { ⌜ (length (now sheets) + 1) * bundles (supply-of (now supply)) ≤ length (now table) ⌝ }
-    requires last { ⌜ drop (length (now sheets) * bundles (supply-of (now supply))) (now table) ≡ row (supply-of (now supply)) (priced (prices-of (now reserve))) ++ drop ((length (now sheets) + 1) * bundles (supply-of (now supply))) (now table) ⌝ }
+    requires long { ⌜ (length (now sheets) + 1) * bundles-of (now supply) ≤ length (now table) ⌝ }
+    requires last { ⌜ from-row (supply-of (now supply)) (length (now sheets)) (now table) ≡ row (supply-of (now supply)) (priced (prices-of (now reserve))) ++ from-row (supply-of (now supply)) (length (now sheets) + 1) (now table) ⌝ }
     requires room { ⌜ length (now without) ≡ length (now sheets) ⌝ }
     ensures filled { λ _. ⌜ now (table .exit) ≡ onto (table-of (auction-of (now (supply .entry)) (now (reserve .entry)) (now (sheets .entry)))) (now (table .entry)) ⌝ }
     ensures without { λ _. ⌜ now (without .exit) ≡ map (worth-without (auction-of (now (supply .entry)) (now (reserve .entry)) (now (sheets .entry)))) (counting 0 (length (now (sheets .entry)))) ⌝ }
@@ -115,7 +115,7 @@ pub fn fill_with_marginals(
     table: &mut [u64],
     without: &mut [u64],
 ) -> Result<(), TableRefusal>
-    ensures answer { λ r. ⌜ r ≡ marginals-answer (length (now (sheets .entry))) (bundles (supply-of (now (supply .entry)))) (length (now (table .entry))) (length (now (without .entry))) ⌝ }
+    ensures answer { λ r. ⌜ r ≡ marginals-answer (length (now (sheets .entry))) (bundles-of (now (supply .entry))) (length (now (table .entry))) (length (now (without .entry))) ⌝ }
     ensures filled { λ r. ⌜ now (table .exit) ≡ cond (isOk r) (onto (table-of (auction-of (now (supply .entry)) (now (reserve .entry)) (now (sheets .entry)))) (now (table .entry))) (now (table .entry)) ⌝ }
     ensures without { λ r. ⌜ now (without .exit) ≡ cond (isOk r) (map (worth-without (auction-of (now (supply .entry)) (now (reserve .entry)) (now (sheets .entry)))) (counting 0 (length (now (sheets .entry))))) (now (without .entry)) ⌝ }
 {

@@ -1,10 +1,10 @@
 // What a sheet makes of one bundle.
 ghost use mathlib.Core.Path.{_≡_};
 ghost use mathlib.Core.List.{map};
-ghost use Prim.Native.Nat.{ℕ, _*_, _^_, _<_, _≤_};
-ghost use lib.ListN.{length, getD, take, drop};
+ghost use Prim.Native.Nat.{_<_, _≤_};
+ghost use lib.ListN.{length, take, drop};
 ghost use Rattle.bundle.specs.Bundles.{units-of};
-ghost use Rattle.bundle.specs.Stocks.{supply-of};
+ghost use Rattle.bundle.specs.Stocks.{supply-of, bundles-of};
 ghost use Rattle.bundle.specs.Units.{bundles, bundle-at};
 ghost use Rattle.sheets.specs.Sheets.{bid-of};
 ghost use Rattle.table.specs.Offers.{places-of, Roomy};
@@ -36,10 +36,10 @@ pub(crate) fn best_at(
 ) -> u64
     requires few { ⌜ length (now lines) ≤ 32 ⌝ }
     requires placed { ⌜ take (length (now lines)) (now places) ≡ places-of (supply-of (now supply)) (now lines) ⌝ }
-    requires roomy { ⌜ Roomy (bundles (supply-of (now supply))) (now rows) ⌝ }
-    requires below { ⌜ at < bundles (supply-of (now supply)) ⌝ }
+    requires roomy { ⌜ Roomy (bundles-of (now supply)) (now rows) ⌝ }
+    requires below { ⌜ at < bundles-of (now supply) ⌝ }
     requires stands { ⌜ units-of (now x) ≡ bundle-at (supply-of (now supply)) at ⌝ }
-    ensures { λ r. ⌜ r ≡ made (supply-of (now (supply .entry))) (drop (bundles (supply-of (now (supply .entry)))) (now (rows .entry))) (map bid-of (now (lines .entry))) (bundle-at (supply-of (now (supply .entry))) at) ⌝ }
+    ensures { λ r. ⌜ r ≡ made (supply-of (now (supply .entry))) (drop (bundles-of (now (supply .entry))) (now (rows .entry))) (map bid-of (now (lines .entry))) (bundle-at (supply-of (now (supply .entry))) at) ⌝ }
 {
     let below = &rows[supply.bundles()..];
     let mut most = below[at];

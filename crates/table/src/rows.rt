@@ -1,17 +1,14 @@
 // The rows of the table, one at a time.
 ghost use mathlib.Core.Path.{_≡_};
-ghost use mathlib.Core.Bool.{_&&_, cond};
-ghost use mathlib.Core.List.{[]};
-ghost use Prim.Native.Nat.{ℕ, _+_, _*_, _≤_};
-ghost use lib.Dec.{ltb, leb};
-ghost use lib.ListN.{length, take, drop};
+ghost use Prim.Native.Nat.{_+_, _*_, _≤_};
+ghost use lib.ListN.{length, drop};
 ghost use Rattle.bundle.specs.Bundles.{units-of};
 ghost use Rattle.bundle.specs.Reserves.{prices-of, priced};
-ghost use Rattle.bundle.specs.Stocks.{supply-of};
+ghost use Rattle.bundle.specs.Stocks.{supply-of, bundles-of};
 ghost use Rattle.bundle.specs.Units.{bundles, bundle-at};
 ghost use Rattle.sheets.specs.Sheets.{bids-of};
 ghost use Rattle.table.specs.Offers.{Roomy};
-ghost use Rattle.table.specs.Tables.{row, onto, made};
+ghost use Rattle.table.specs.Tables.{row, row-below, onto, made};
 use crate::offers::best_at;
 use crate::offers::places_of;
 use bundle::Bundle;
@@ -28,7 +25,7 @@ fn first_bundle(supply: &Supply) -> Bundle
 
 // Writes the first row: what the reserve keeps of each bundle.
 pub(crate) fn keep_row(supply: &Supply, reserve: &Reserve, rows: &mut [u64])
-    requires long { ⌜ bundles (supply-of (now supply)) ≤ length (now rows) ⌝ }
+    requires long { ⌜ bundles-of (now supply) ≤ length (now rows) ⌝ }
     ensures { λ _. ⌜ now (rows .exit) ≡ onto (row (supply-of (now (supply .entry))) (priced (prices-of (now (reserve .entry))))) (now (rows .entry)) ⌝ }
 {
     let mut x = first_bundle(supply);
@@ -40,8 +37,8 @@ pub(crate) fn keep_row(supply: &Supply, reserve: &Reserve, rows: &mut [u64])
 
 // Writes the first row: the most that a sheet makes of each bundle, by the second row.
 pub(crate) fn fill_row(supply: &Supply, sheet: &Sheet, rows: &mut [u64])
-    requires roomy { ⌜ Roomy (bundles (supply-of (now supply))) (now rows) ⌝ }
-    ensures { λ _. ⌜ now (rows .exit) ≡ onto (row (supply-of (now (supply .entry))) (made (supply-of (now (supply .entry))) (drop (bundles (supply-of (now (supply .entry)))) (now (rows .entry))) (bids-of (now (sheet .entry))))) (now (rows .entry)) ⌝ }
+    requires roomy { ⌜ Roomy (bundles-of (now supply)) (now rows) ⌝ }
+    ensures { λ _. ⌜ now (rows .exit) ≡ onto (row (supply-of (now (supply .entry))) (made (supply-of (now (supply .entry))) (drop (bundles-of (now (supply .entry))) (now (rows .entry))) (bids-of (now (sheet .entry))))) (now (rows .entry)) ⌝ }
 {
     let lines = sheet.lines();
     let places = places_of(supply, lines);
@@ -55,7 +52,7 @@ pub(crate) fn fill_row(supply: &Supply, sheet: &Sheet, rows: &mut [u64])
 
 // The row below that of a farm, which is the reserve's for the last one; nothing where there is no such farm, or the table is too short.
 pub fn row_below<'a>(table: &'a [u64], sheets: &[Sheet], supply: &Supply, farm: usize) -> &'a [u64]
-    ensures { λ r. ⌜ now r ≡ cond (ltb farm (length (now (sheets .entry))) && (ltb farm 48 && leb ((farm + 2) * bundles (supply-of (now (supply .entry)))) (length (now (table .entry))))) (take (bundles (supply-of (now (supply .entry)))) (drop ((farm + 1) * bundles (supply-of (now (supply .entry)))) (now (table .entry)))) [] ⌝ }
+    ensures { λ r. ⌜ now r ≡ row-below (length (now (sheets .entry))) (supply-of (now (supply .entry))) farm (now (table .entry)) ⌝ }
 {
     if farm >= sheets.len() || farm >= 48 {
         return &table[0..0];

@@ -1,17 +1,14 @@
-use mathlib.Core.Path.{_≡_, refl, sym, ap, _∙_}
-use mathlib.Core.List.{List, [], map, _++_}
-use Prim.Native.Nat.{ℕ, _+_, _-_, _≤_}
+use mathlib.Core.Path.{ap}
+use Prim.Native.Nat.{_+_, _-_}
 use native.Mathlib.Omega.{arith}
-use lib.ListN.{length, getD}
-use Rattle.std.specs.Iters.{counting}
+use lib.ListN.{length}
 use Rattle.std.proofs.shelf.Counted.{length-map-counting}
-use Rattle.std.proofs.shelf.Lists.{append-nil, getD-map, length-map}
-use Rattle.bundle.specs.Bids.{Bid, Bids}
+use Rattle.std.proofs.shelf.Lists.{length-map}
 use Rattle.bundle.specs.Reserves.{prices-of}
 use Rattle.sheets.specs.Sheets.{bids-of}
 use Rattle.table.specs.Tables.{auction-of}
 use Rattle.vcg.specs.Auction.{chosen}
-use Rattle.vcg.specs.Optimum.{best-choice, best-worth, worth-without, charge-at}
+use Rattle.vcg.specs.Optimum.{best-choice, worth-without, charge-at}
 use Rattle.vcg.proofs.Optimal.{length-award}
 use Rattle.vcg.proofs.Outcomes.{charge-room}
 use Rattle.award.proofs.Bounds.{without-small}

@@ -1,9 +1,9 @@
 use mathlib.Core.Path.{_≡_, refl, sym, ap, _∙_}
 use mathlib.Core.List.{map, _++_}
-use Prim.Native.Nat.{_+_, _-_, _*_, _≤_}
+use Prim.Native.Nat.{_+_, _*_, _≤_}
 use native.Mathlib.Nat.{add-mul}
 use native.Mathlib.Omega.{arith}
-use lib.ListN.{length, getD, drop}
+use lib.ListN.{length, drop}
 use Rattle.std.specs.Iters.{counting}
 use Rattle.std.specs.declared.result.Result.the-variants.{Ok}
 use Rattle.std.proofs.shelf.Counted.{length-map-counting}
@@ -11,11 +11,10 @@ use Rattle.std.proofs.shelf.Lists.{drop-at, length-map}
 use Rattle.std.proofs.shelf.Tests.{cond-false, cond-true, eq-eqb, le-ltb}
 use Rattle.bundle.specs.Stocks.{supply-of}
 use Rattle.bundle.specs.Units.{bundles}
-use Rattle.bundle.proofs.Bundles.{bundle-at-last, bundles-pos}
+use Rattle.bundle.proofs.Bundles.{bundles-pos}
 use Rattle.sheets.specs.Sheets.{bids-of}
 use Rattle.table.specs.Tables.{auction-of, table-of, onto}
-use Rattle.table.proofs.TableRows.{getD-rows}
-use Rattle.vcg.specs.Optimum.{best-worth, worth-without, charge-at, optimum}
+use Rattle.vcg.specs.Optimum.{worth-without, charge-at}
 use Rattle.award.proofs.Picks.{first-entry}
 use Rattle.award.proofs.deciding.decide.Needs as need
 

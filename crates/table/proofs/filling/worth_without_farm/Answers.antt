@@ -1,19 +1,17 @@
 use mathlib.Core.Path.{_≡_, refl, sym, ap, subst, _∙_}
-use mathlib.Core.List.{List, [], map, _++_}
-use Prim.Native.Nat.{ℕ, _+_, _-_, _*_, _^_, _≤_}
+use mathlib.Core.List.{map, _++_}
+use Prim.Native.Nat.{_+_, _-_, _*_, _≤_}
 use native.Mathlib.Nat.{add-mul}
 use native.Mathlib.Omega.{arith}
 use borrow.Rule.Slice.PartMut.{putMid}
 use lib.ListN.{length, getD, take, drop}
 use Rattle.std.proofs.shelf.Lists.{drop-at, getD-drop, length-drop, length-map, length-take-le, take-map, take-rest}
-use Rattle.bundle.specs.Bids.{Bids}
 use Rattle.bundle.specs.Stocks.{supply-of}
-use Rattle.bundle.specs.Units.{bundles, bundle-at, place}
-use Rattle.bundle.proofs.Bundles.{bundle-at-last, bundle-at-within, length-bundle-at, bundles-pos, place-below, within-refl}
+use Rattle.bundle.specs.Units.{bundles, bundle-at}
+use Rattle.bundle.proofs.Bundles.{bundle-at-last, bundle-at-within, length-bundle-at, bundles-pos}
 use Rattle.sheets.specs.Sheets.{bids-of}
-use Rattle.vcg.specs.Optimum.{best-among, optimum}
-use Rattle.vcg.proofs.Alike.{optimum-like}
-use Rattle.table.specs.Tables.{row, rows, entry, made, onto}
+use Rattle.vcg.specs.Optimum.{optimum}
+use Rattle.table.specs.Tables.{rows, entry, onto}
 use Rattle.table.proofs.Layers.{below-part, length-part, empty-row, filled-rows, small-row, small-keep}
 use Rattle.table.specs.Offers.{Small-row}
 use Rattle.table.proofs.TableRows.{getD-rows, length-rows}

@@ -1,9 +1,8 @@
-use mathlib.Core.Path.{_≡_, refl, sym, ap, _∙_}
+use mathlib.Core.Path.{_≡_, ap, _∙_}
 use mathlib.Core.List.{map}
-use Prim.Native.Nat.{ℕ, _+_}
 use native.Mathlib.Omega.{arith}
-use lib.ListN.{length, getD, drop}
-use Rattle.std.proofs.shelf.Lists.{getD-drop, length-map}
+use lib.ListN.{getD, drop}
+use Rattle.std.proofs.shelf.Lists.{getD-drop}
 use Rattle.bundle.specs.Bids.{Bids}
 use Rattle.bundle.specs.Stocks.{supply-of}
 use Rattle.bundle.specs.Units.{bundles, bundle-at, next}

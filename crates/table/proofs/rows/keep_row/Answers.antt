@@ -1,4 +1,4 @@
-use mathlib.Core.Path.{_≡_, refl, ap, _∙_}
+use mathlib.Core.Path.{ap, _∙_}
 use native.Mathlib.Omega.{arith}
 use Rattle.bundle.specs.Reserves.{prices-of, priced}
 use Rattle.bundle.specs.Stocks.{supply-of}
