@@ -20,9 +20,8 @@ use Rattle.sheets.specs.declared.parts.Sheet.{Sheet}
 use Rattle.table.specs.Tables.{rows, table-of, entry, onto}
 use Rattle.table.proofs.TableRows.{drop-rows, entry-rows, getD-rows, getD-table, length-rows}
 use Rattle.vcg.specs.Auction.{Auction, no-bid, chosen}
-use Rattle.vcg.specs.Optimum.{optimum, best-worth, first-among, pick, award}
+use Rattle.vcg.specs.Optimum.{optimum, best-worth, makes, first-among, pick, award}
 use Rattle.vcg.proofs.Alike.{pick-like}
-use Rattle.award.specs.Rows.{makes}
 
 -- what is left of a bundle within the supply has a place
 pub left-below : (s x y w : List ℕ) → within x s ≡ true → y ≡ less x w → place s y < bundles s

@@ -39,6 +39,16 @@ fn fill_rows(supply: &Supply, sheets: &[Sheet], table: &mut [u64])
     }
 }
 
+// Writes the row after those of so many farms: what the reserve keeps of each bundle.
+fn keep_last(supply: &Supply, reserve: &Reserve, farms: usize, table: &mut [u64])
+    requires few { ⌜ farms ≤ 48 ⌝ }
+    requires long { ⌜ (farms + 1) * bundles-of (now supply) ≤ length (now table) ⌝ }
+    ensures { λ _. ⌜ from-row (supply-of (now (supply .entry))) farms (now (table .exit)) ≡ row (supply-of (now (supply .entry))) (priced (prices-of (now (reserve .entry)))) ++ from-row (supply-of (now (supply .entry))) (farms + 1) (now (table .entry)) ⌝ }
+{
+    let at = farms * supply.bundles();
+    keep_row(supply, reserve, &mut table[at..]);
+}
+
 // Fills the front of the table, and leaves the rest as it was; refused, with no change, for more than 48 farms and where it is too short.
 pub fn fill(
     supply: &Supply,
@@ -53,11 +63,10 @@ pub fn fill(
     if farms > MAX_FARMS {
         return Err(TableRefusal::Farms);
     }
-    let row = supply.bundles();
-    if table.len() < (farms + 1) * row {
+    if table.len() < (farms + 1) * supply.bundles() {
         return Err(TableRefusal::Table);
     }
-    keep_row(supply, reserve, &mut table[farms * row..]);
+    keep_last(supply, reserve, farms, table);
     fill_rows(supply, sheets, table);
     Ok(())
 }
@@ -123,14 +132,13 @@ pub fn fill_with_marginals(
     if farms > MAX_FARMS {
         return Err(TableRefusal::Farms);
     }
-    let row = supply.bundles();
-    if table.len() < (farms + 1) * row {
+    if table.len() < (farms + 1) * supply.bundles() {
         return Err(TableRefusal::Table);
     }
     if without.len() != farms {
         return Err(TableRefusal::Without);
     }
-    keep_row(supply, reserve, &mut table[farms * row..]);
+    keep_last(supply, reserve, farms, table);
     fill_each(supply, reserve, sheets, table, without);
     Ok(())
 }

@@ -1,6 +1,6 @@
 -- What one bidder's alternatives make of units, and which of them is picked. Assumes nothing.
 use mathlib.Core.Path.{_≡_, refl, sym, _∙_, ap, subst}
-use mathlib.Core.Bool.{Bool, true, false, _&&_, cond}
+use mathlib.Core.Bool.{true, false, cond}
 use mathlib.Core.List.{List, [], _∷_}
 use mathlib.Core.Logic.{_⊎_, inl, inr, ⊎-elim}
 use Prim.Native.Nat.{ℕ, zero, suc, _+_, _≤_, _<_, max}
@@ -13,7 +13,7 @@ use Rattle.bundle.specs.Bids.{Bid, Bids}
 use Rattle.bundle.specs.Units.{less, Within, within}
 use Rattle.bundle.proofs.Bundles.{less-nil, within-true, true-within, nil-within}
 use Rattle.vcg.specs.Auction.{no-bid, chosen}
-use Rattle.vcg.specs.Optimum.{better, best-among, first-among, pick}
+use Rattle.vcg.specs.Optimum.{better, best-among, makes, first-among, pick}
 use Rattle.vcg.specs.Truth.{worth, Worth, Worth-exactly}
 
 -- alternative l makes t of the units x
@@ -83,46 +83,41 @@ module _ (rest : List ℕ → ℕ) (x : List ℕ) where
       go (inr h) = rw (getD-past b j no-bid h) (rw (less-nil x) (omega (arith, best-up b (rest x))))
 
 module _ (rest : List ℕ → ℕ) (x : List ℕ) (t : ℕ) where
-  hits : Bid → Bool
-  hits l = within (l .want) x && eqb (l .value + rest (less x (l .want))) t
-
-  hits-true : (l : Bid) → hits l ≡ true → Hit rest x t l
-  unfolding hits
+  hits-true : (l : Bid) → makes rest x t l ≡ true → Hit rest x t l
   hits-true l e =
       let p = and-parts (within (l .want) x) (eqb (l .value + rest (less x (l .want))) t) e in
       record { fits = within-true (l .want) x (p .0); makes = eqb-true (l .value + rest (less x (l .want))) t (p .1) }
 
-  true-hits : (l : Bid) → Hit rest x t l → hits l ≡ true
-  unfolding hits
+  true-hits : (l : Bid) → Hit rest x t l → makes rest x t l ≡ true
   true-hits l h = and-from (within (l .want) x) (eqb (l .value + rest (less x (l .want))) t)
       (true-within (l .want) x (h .fits)) (eq-eqb (l .value + rest (less x (l .want))) t (h .makes))
 
   -- the first alternative that hits, if one does
   first-found : (b : Bids) (n j : ℕ) → j < length b → Hit rest x t (getD b j no-bid)
       → (k : ℕ) × (first-among rest x t b n ≡ n + k) × Hit rest x t (getD b k no-bid) × ((i : ℕ) → i < k → Hit rest x t (getD b i no-bid) → ⊥)
-  unfolding first-among hits
+  unfolding first-among
   first-found [] n j h hit = absurd (omega arith)
   first-found (l ∷ ls) n zero h hit = (
     0,
-    cond-true (hits l) n (first-among rest x t ls (suc n)) (true-hits l hit) ∙ omega arith,
+    cond-true (makes rest x t l) n (first-among rest x t ls (suc n)) (true-hits l hit) ∙ omega arith,
     hit,
     λ i k _. omega arith,
   )
-  first-found (l ∷ ls) n (suc j) h hit = go (cases-bool (hits l)) (first-found ls (suc n) j (omega arith) hit)
+  first-found (l ∷ ls) n (suc j) h hit = go (cases-bool (makes rest x t l)) (first-found ls (suc n) j (omega arith) hit)
     where
-      go : (hits l ≡ true) ⊎ (hits l ≡ false)
+      go : (makes rest x t l ≡ true) ⊎ (makes rest x t l ≡ false)
           → (k : ℕ) × (first-among rest x t ls (suc n) ≡ suc n + k) × Hit rest x t (getD ls k no-bid) × ((i : ℕ) → i < k → Hit rest x t (getD ls i no-bid) → ⊥)
-          → (k : ℕ) × (cond (hits l) n (first-among rest x t ls (suc n)) ≡ n + k) × Hit rest x t (getD (l ∷ ls) k no-bid) × ((i : ℕ) → i < k → Hit rest x t (getD (l ∷ ls) i no-bid) → ⊥)
-      go (inl e) r = (0, cond-true (hits l) n (first-among rest x t ls (suc n)) e ∙ omega arith, hits-true l e, λ i k _. omega arith)
+          → (k : ℕ) × (cond (makes rest x t l) n (first-among rest x t ls (suc n)) ≡ n + k) × Hit rest x t (getD (l ∷ ls) k no-bid) × ((i : ℕ) → i < k → Hit rest x t (getD (l ∷ ls) i no-bid) → ⊥)
+      go (inl e) r = (0, cond-true (makes rest x t l) n (first-among rest x t ls (suc n)) e ∙ omega arith, hits-true l e, λ i k _. omega arith)
       go (inr e) r = (
         suc (r .0),
-        cond-false (hits l) n (first-among rest x t ls (suc n)) e ∙ (r .1 ∙ omega arith),
+        cond-false (makes rest x t l) n (first-among rest x t ls (suc n)) e ∙ (r .1 ∙ omega arith),
         r .2,
         least,
       )
         where
           least : (i : ℕ) → i < suc (r .0) → Hit rest x t (getD (l ∷ ls) i no-bid) → ⊥
-          least zero k f = both-ways (hits l) e (true-hits l f)
+          least zero k f = both-ways (makes rest x t l) e (true-hits l f)
           least (suc i) k f = r .3 i (omega arith) f
 
   none-hits : rest x ≡ t → Hit rest x t no-bid

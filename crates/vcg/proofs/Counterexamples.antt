@@ -58,7 +58,7 @@ pub growth-needed : Growth-needed
 unfolding with-bids gets chosen within less best-among
 growth-needed = (
   λ t.
-      let f : 10 + 7 ≤ 10 + 2 = t (seller []) 0 one two (paid 7) (paid 2) (omega arith) one-ruled two-ruled in
+      let f : 10 + 7 ≤ 10 + 2 = t (seller []) 0 one two (paid 7) (paid 2) (omega arith) tt one-ruled two-ruled in
       omega arith,
   outcome-wants-growth,
 )

@@ -1,6 +1,6 @@
 -- The best worth, the first best choice and the charges as functions that compute. Assumes nothing: these are definitions and statements.
 use mathlib.Core.Path.{_≡_}
-use mathlib.Core.Bool.{_&&_, cond}
+use mathlib.Core.Bool.{Bool, _&&_, cond}
 use mathlib.Core.List.{List, [], _∷_, map}
 use Prim.Native.Nat.{ℕ, suc, _+_, _-_, _≤_, max}
 use lib.Dec.{eqb}
@@ -26,10 +26,14 @@ unfoldable pub optimum : (List ℕ → ℕ) → List Bids → List ℕ → ℕ
 optimum keep [] x = keep x
 optimum keep (b ∷ bs) x = best-among (optimum keep bs) x b (optimum keep bs x)
 
+-- whether an alternative makes t of x
+abbrev pub makes : (List ℕ → ℕ) → List ℕ → ℕ → Bid → Bool
+makes rest x t l = within (l .want) x && eqb (l .value + rest (less x (l .want))) t
+
 -- the number, counted from n, of the first alternative that makes t of x; 0 where none does
 unfoldable pub first-among : (List ℕ → ℕ) → List ℕ → ℕ → Bids → ℕ → ℕ
 first-among rest x t [] n = 0
-first-among rest x t (l ∷ ls) n = cond (within (l .want) x && eqb (l .value + rest (less x (l .want))) t) n (first-among rest x t ls (suc n))
+first-among rest x t (l ∷ ls) n = cond (makes rest x t l) n (first-among rest x t ls (suc n))
 
 -- the choice of one bidder: none where t is made without it, else the first alternative that makes t
 unfoldable pub pick : (List ℕ → ℕ) → List ℕ → ℕ → Bids → ℕ
@@ -39,8 +43,8 @@ pick rest x t b = cond (eqb (rest x) t) 0 (first-among rest x t b 1)
 unfoldable pub award : (List ℕ → ℕ) → List Bids → List ℕ → List ℕ
 award keep [] x = []
 award keep (b ∷ bs) x =
-    pick (optimum keep bs) x (optimum keep (b ∷ bs) x) b
-    ∷ award keep bs (less x (chosen b (pick (optimum keep bs) x (optimum keep (b ∷ bs) x) b) .want))
+    let c = pick (optimum keep bs) x (optimum keep (b ∷ bs) x) b in
+    c ∷ award keep bs (less x (chosen b c .want))
 
 abbrev pub best-worth : Auction → ℕ
 best-worth a = optimum (a .keep) (a .bidders) (a .supply)

@@ -24,25 +24,22 @@ pub record Worth (b : Bids) (x : List ℕ) (w : ℕ) : Type 0 where
 abbrev pub Worth-exactly : Type 0
 Worth-exactly = (b : Bids) (x : List ℕ) (w : ℕ) → (Worth b x w → w ≡ worth b x) × (w ≡ worth b x → Worth b x w)
 
--- no bids serve bidder i better than the true ones, whatever the others bid and however ties are broken:
--- what it gets, by its true worth, less the charge. The bidder may leave units aside, so the seller's worth of units must grow with them
-abbrev pub Truthful : Type 0
-Truthful =
+-- in auctions of which P holds, no bids serve bidder i better than the true ones, whatever the others bid and however ties are broken:
+-- what it gets, by its true worth, less the charge
+abbrev pub True-bids-are-best : (Auction → Type 0) → Type 0
+True-bids-are-best P =
     (a : Auction) (i : ℕ) (honest other : Bids) (o p : Outcome) →
     i < length (a .bidders) →
-    Grows a →
+    P a →
     Ruled (with-bids a i honest) o →
     Ruled (with-bids a i other) p →
     worth honest (gets (with-bids a i other) p i .want) + getD (o .charge) i 0
     ≤ worth honest (gets (with-bids a i honest) o i .want) + getD (p .charge) i 0
 
--- without that premise neither would truth be best, nor every charge a number that is not negative
+-- the bidder may leave units aside, so the seller's worth of units must grow with them
+abbrev pub Truthful : Type 0
+Truthful = True-bids-are-best Grows
+
+-- otherwise neither would truth be best, nor every charge a number that is not negative
 abbrev pub Growth-needed : Type 0
-Growth-needed =
-    (((a : Auction) (i : ℕ) (honest other : Bids) (o p : Outcome) →
-    i < length (a .bidders) →
-    Ruled (with-bids a i honest) o →
-    Ruled (with-bids a i other) p →
-    worth honest (gets (with-bids a i other) p i .want) + getD (o .charge) i 0
-    ≤ worth honest (gets (with-bids a i honest) o i .want) + getD (p .charge) i 0) → ⊥)
-    × (((a : Auction) → Ruled a (outcome-of a)) → ⊥)
+Growth-needed = (True-bids-are-best (λ _. Unit) → ⊥) × (((a : Auction) → Ruled a (outcome-of a)) → ⊥)
