@@ -4,7 +4,6 @@ ghost use mathlib.Core.Bool.{cond};
 ghost use lib.ListN.{length};
 ghost use Rattle.std.specs.Results.{isOk};
 ghost use Rattle.bundle.specs.Stocks.{bundles-of};
-ghost use Rattle.bundle.specs.Units.{bundles};
 ghost use Rattle.table.specs.Tables.{auction-of, table-of, onto};
 ghost use Rattle.vcg.specs.Optimum.{best-worth, outcome-of};
 ghost use Rattle.award.specs.Deciding.{decision};
@@ -14,9 +13,8 @@ use crate::refusals::AwardRefusal;
 use bundle::Reserve;
 use bundle::Supply;
 use sheets::Sheet;
+use table::MAX_FARMS;
 use table::fill_with_marginals;
-
-const MAX_FARMS: usize = 48;
 
 // Fills the table, writes the first best choice and what each farm pays, and answers what the choice is worth;
 // refused, with no change, where there are more than 48 farms or one of the lent rows has not the length it needs.

@@ -1,5 +1,6 @@
 // Bundles at the edges.
 use bundle::Bundle;
+use bundle::Reserve;
 use bundle::Supply;
 use bundle::SupplyRefusalDebug;
 use std::test::*;
@@ -19,6 +20,22 @@ fn places() -> Result<(), Fail> {
         return Err(Fail::new("bundle"));
     };
     check_eq(supply.place(&x), 13)
+}
+
+#[test]
+fn steps() -> Result<(), Fail> {
+    let supply = Supply::new(&[2, 1, 3])?;
+    let Ok(reserve) = Reserve::new(&[1, 10, 100]) else {
+        return Err(Fail::new("reserve"));
+    };
+    let mut x = Bundle::empty(3);
+    for place in 0..24 {
+        check_eq(supply.place(&x), place)?;
+        x = supply.next(&x);
+    }
+    check(x.units() == &[0, 0, 0])?;
+    check_eq(reserve.worth(&supply.units()), 312)?;
+    check_eq(reserve.worth(&Bundle::empty(2).with_count(1, 7)), 70)
 }
 
 #[test]

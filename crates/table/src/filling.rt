@@ -8,20 +8,18 @@ ghost use Rattle.std.specs.Iters.{counting};
 ghost use Rattle.std.specs.Results.{isOk};
 ghost use Rattle.bundle.specs.Reserves.{prices-of, priced};
 ghost use Rattle.bundle.specs.Stocks.{supply-of, bundles-of};
-ghost use Rattle.bundle.specs.Units.{bundles};
 ghost use Rattle.sheets.specs.Sheets.{bids-of};
 ghost use Rattle.vcg.specs.Optimum.{optimum, worth-without};
 ghost use Rattle.table.specs.Offers.{Small-row};
 ghost use Rattle.table.specs.Refusals.{fill-answer, marginals-answer};
 ghost use Rattle.table.specs.Tables.{row, rows, table-of, auction-of, from-row, onto, entry};
+use crate::MAX_FARMS;
 use crate::refusals::TableRefusal;
 use crate::rows::fill_row;
 use crate::rows::keep_row;
 use bundle::Reserve;
 use bundle::Supply;
 use sheets::Sheet;
-
-const MAX_FARMS: usize = 48;
 
 // Writes the row of each of these sheets, from the last to the first, by the row after them.
 fn fill_rows(supply: &Supply, sheets: &[Sheet], table: &mut [u64])

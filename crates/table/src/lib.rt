@@ -13,3 +13,6 @@ pub use refusals::TableRefusalPartialEq;
 pub use rows::row_below;
 pub use theorems::entries_are_all_stands;
 pub use theorems::entries_are_most_stands;
+
+// The most farms that a sale has.
+pub const MAX_FARMS: usize = 48;

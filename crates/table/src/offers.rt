@@ -5,7 +5,7 @@ ghost use Prim.Native.Nat.{_<_, _≤_};
 ghost use lib.ListN.{length, take, drop};
 ghost use Rattle.bundle.specs.Bundles.{units-of};
 ghost use Rattle.bundle.specs.Stocks.{supply-of, bundles-of};
-ghost use Rattle.bundle.specs.Units.{bundles, bundle-at};
+ghost use Rattle.bundle.specs.Units.{bundle-at};
 ghost use Rattle.sheets.specs.Sheets.{bid-of};
 ghost use Rattle.table.specs.Offers.{places-of, Roomy};
 ghost use Rattle.table.specs.Tables.{made};

@@ -1,14 +1,15 @@
 // The rows of the table, one at a time.
 ghost use mathlib.Core.Path.{_≡_};
-ghost use Prim.Native.Nat.{_+_, _*_, _≤_};
+ghost use Prim.Native.Nat.{_≤_};
 ghost use lib.ListN.{length, drop};
 ghost use Rattle.bundle.specs.Bundles.{units-of};
 ghost use Rattle.bundle.specs.Reserves.{prices-of, priced};
 ghost use Rattle.bundle.specs.Stocks.{supply-of, bundles-of};
-ghost use Rattle.bundle.specs.Units.{bundles, bundle-at};
+ghost use Rattle.bundle.specs.Units.{bundle-at};
 ghost use Rattle.sheets.specs.Sheets.{bids-of};
 ghost use Rattle.table.specs.Offers.{Roomy};
 ghost use Rattle.table.specs.Tables.{row, row-below, onto, made};
+use crate::MAX_FARMS;
 use crate::offers::best_at;
 use crate::offers::places_of;
 use bundle::Bundle;
@@ -54,7 +55,7 @@ pub(crate) fn fill_row(supply: &Supply, sheet: &Sheet, rows: &mut [u64])
 pub fn row_below<'a>(table: &'a [u64], sheets: &[Sheet], supply: &Supply, farm: usize) -> &'a [u64]
     ensures { λ r. ⌜ now r ≡ row-below (length (now (sheets .entry))) (supply-of (now (supply .entry))) farm (now (table .entry)) ⌝ }
 {
-    if farm >= sheets.len() || farm >= 48 {
+    if farm >= sheets.len() || farm >= MAX_FARMS {
         return &table[0..0];
     }
     let row = supply.bundles();
