@@ -1,7 +1,7 @@
--- No worth of a sale passes 64 bits. Assumes nothing.
-use mathlib.Core.Path.{refl}
+-- No worth of a sale and no place in its table passes 64 bits. Assumes nothing.
+use mathlib.Core.Path.{_≡_, refl}
 use mathlib.Core.List.{List, [], _∷_, map}
-use Prim.Native.Nat.{ℕ, zero, suc, _*_, _^_, _≤_}
+use Prim.Native.Nat.{ℕ, zero, suc, _+_, _*_, _^_, _≤_, _<_}
 use native.Mathlib.Omega.{arith}
 use lib.ListN.{length, getD, set, length-set}
 use Rattle.std.proofs.shelf.Bits.{mul-le}
@@ -9,6 +9,7 @@ use Rattle.std.proofs.shelf.Lists.{length-map}
 use Rattle.bundle.specs.Bids.{Bids}
 use Rattle.bundle.specs.Reserves.{prices-of, priced}
 use Rattle.bundle.specs.Stocks.{supply-of}
+use Rattle.bundle.specs.Units.{bundles}
 use Rattle.bundle.specs.declared.prices.Reserve.{Reserve}
 use Rattle.bundle.specs.declared.stock.Supply.{Supply}
 use Rattle.bundle.proofs.Bundles.{within-refl}
@@ -38,3 +39,9 @@ without-small s r sheets k few =
           (supply-of s) refl (within-refl (supply-of s)),
       mul-le (length bs) (2 ^ 32) 48 (2 ^ 32) count (omega arith),
     )
+
+-- the place of an entry in the table
+pub entry-small : (s : Supply) (k m p : ℕ) → k ≤ 48 → m ≡ bundles (supply-of s) → p < bundles (supply-of s) → k * m + p < 49 * 4096
+entry-small s k m p few many below =
+    let wide : bundles (supply-of s) ≤ 4096 = omega (arith, s .counted, s .small) in
+    omega (arith, mul-le k m 48 4096 few (omega arith))

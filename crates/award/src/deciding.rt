@@ -42,6 +42,7 @@ pub fn decide(
     if award.len() != farms {
         return Err(AwardRefusal::Award);
     }
+    // Only the row for the charges can still be wrong.
     let Ok(()) = fill_with_marginals(supply, reserve, sheets, table, charges) else {
         return Err(AwardRefusal::Charges);
     };

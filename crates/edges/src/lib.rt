@@ -1,4 +1,4 @@
-// Tests at the edges of the rules: each refusal on both sides of its limit.
+// Tests at the edges of the rules, each refusal on both sides of its limit; and sample sales.
 #[cfg(test)]
 mod answers;
 #[cfg(test)]

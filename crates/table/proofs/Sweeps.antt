@@ -1,10 +1,11 @@
 -- A sweep over the lines of a sheet for one bundle: its start, one line more, and its end. Assumes nothing.
 use mathlib.Core.Path.{_≡_, sym, ap, _∙_}
 use mathlib.Core.Bool.{true, false}
-use mathlib.Core.List.{List, [], _∷_, _++_, map}
-use Prim.Native.Nat.{ℕ, _+_, _-_, _≤_, _<_, max}
-use lib.ListN.{length, getD, set, take, drop}
-use Rattle.std.proofs.shelf.Lists.{drop-more, drop-all, take-rest, getD-take, getD-map, take-more-set, map-more}
+use mathlib.Core.List.{List, [], _∷_, _++_, map, append-assoc}
+use Prim.Native.Nat.{ℕ, suc, _+_, _-_, _≤_, _<_, max}
+use native.Mathlib.Omega.{arith}
+use lib.ListN.{length, getD, replicate, set, take, drop}
+use Rattle.std.proofs.shelf.Lists.{drop-more, drop-all, take-rest, getD-take, getD-map, length-map, length-take-le, map-more, set-at, take-at}
 use Rattle.std.proofs.shelf.Tests.{cond-true, cond-false}
 use Rattle.bundle.specs.Bids.{Bid}
 use Rattle.bundle.specs.Bundles.{units-of}
@@ -27,10 +28,21 @@ placed-at s ls ps k d is h here =
     ∙ ap (λ (l : Line). place s (units-of (l .units))) (sym here)
 
 -- one place more
-pub places-more : (s : List ℕ) (ls : List Line) (ps : List ℕ) (k : ℕ) (d : Line) (v : ℕ) → k < length ls → k < length ps → v ≡ place s (units-of (getD ls k d .units))
-    → take k ps ≡ places-of s (take k ls) → take (k + 1) (set ps k v) ≡ places-of s (take (k + 1) ls)
+pub places-more : (s : List ℕ) (ls : List Line) (ps : List ℕ) (k : ℕ) (d : Line) (v : ℕ) → k < length ls → k < 32 → v ≡ place s (units-of (getD ls k d .units))
+    → ps ≡ places-of s (take k ls) ++ replicate (32 - k) 0 → set ps k v ≡ places-of s (take (k + 1) ls) ++ replicate (32 - (k + 1)) 0
 places-more s ls ps k d v h g is before =
-    take-more-set ps k v g ∙ (λ i. before i ++ (is i ∷ [])) ∙ sym (map-more (λ (l : Line). place s (units-of (l .units))) ls k d h)
+    let some = places-of s (take k ls) in
+    let rest = replicate {A = ℕ} (32 - (k + 1)) 0 in
+    let more : 32 - k ≡ suc (32 - (k + 1)) = omega arith in
+    let long : length some ≡ k = length-map (take k ls) (λ (l : Line). place s (units-of (l .units))) ∙ length-take-le k ls (omega arith) in
+    ap (λ l. set l k v) (before ∙ ap (λ n. some ++ replicate n 0) more)
+    ∙ set-at some 0 rest v k long
+    ∙ ap (λ n. some ++ n ∷ rest) is
+    ∙ sym (append-assoc some (place s (units-of (getD ls k d .units)) ∷ []) rest)
+    ∙ ap (λ l. l ++ rest) (sym (map-more (λ (l : Line). place s (units-of (l .units))) ls k d h))
+
+pub places-front : (s : List ℕ) (ls : List Line) (ps rest : List ℕ) → ps ≡ places-of s ls ++ rest → take (length ls) ps ≡ places-of s ls
+places-front s ls ps rest is = ap (take (length ls)) is ∙ take-at (places-of s ls) rest (length ls) (length-map ls (λ (l : Line). place s (units-of (l .units))))
 
 -- the place of what it leaves of the bundle at the place n
 pub left-at : (s : List ℕ) (x : List ℕ) (u : Bundle) (n : ℕ) → n < bundles s → x ≡ bundle-at s n → true ≡ within (units-of u) x

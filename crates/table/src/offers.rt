@@ -1,8 +1,8 @@
 // What a sheet makes of one bundle.
 ghost use mathlib.Core.Path.{_≡_};
-ghost use mathlib.Core.List.{map};
-ghost use Prim.Native.Nat.{_<_, _≤_};
-ghost use lib.ListN.{length, take, drop};
+ghost use mathlib.Core.List.{_++_, map};
+ghost use Prim.Native.Nat.{_-_, _<_, _≤_};
+ghost use lib.ListN.{length, take, drop, replicate};
 ghost use Rattle.bundle.specs.Bundles.{units-of};
 ghost use Rattle.bundle.specs.Stocks.{supply-of, bundles-of};
 ghost use Rattle.bundle.specs.Units.{bundle-at};
@@ -13,10 +13,10 @@ use bundle::Bundle;
 use bundle::Supply;
 use sheets::Line;
 
-// The place of what each line wants, so that it is found once for all entries of a row.
+// The place of what each line wants, so that it is found once for all entries of a row; 0 past the last line.
 pub(crate) fn places_of(supply: &Supply, lines: &[Line]) -> [usize; 32]
     requires few { ⌜ length (now lines) ≤ 32 ⌝ }
-    ensures { λ r. ⌜ take (length (now (lines .entry))) r ≡ places-of (supply-of (now (supply .entry))) (now (lines .entry)) ⌝ }
+    ensures { λ r. ⌜ r ≡ places-of (supply-of (now (supply .entry))) (now (lines .entry)) ++ replicate (32 - length (now (lines .entry))) 0 ⌝ }
 {
     let mut all = [0; 32];
     for k in 0..lines.len() {

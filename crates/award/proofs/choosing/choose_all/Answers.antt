@@ -19,6 +19,7 @@ use Rattle.table.proofs.Layers.{bids-from, row-cap}
 use Rattle.table.proofs.TableRows.{drop-rows}
 use Rattle.vcg.specs.Auction.{chosen}
 use Rattle.vcg.specs.Optimum.{optimum, award}
+use Rattle.award.proofs.Bounds.{entry-small}
 use Rattle.award.proofs.Picks.{award-more, award-written, below-is, lent-below, table-long, target-is}
 use Rattle.award.proofs.choosing.choose_all.Needs as need
 
@@ -32,31 +33,17 @@ loop-farm-holds c =
 
 pub add-target : need.add-target
 add-target c =
-    let s = c .args .supply .now in
+    let s = supply-of (c .args .supply .now) in
     let x = units-of (c .loop-farm .x) in
-    omega (
-      arith,
-      c .place .ensures,
-      c .pre .few,
-      s .counted,
-      s .small,
-      place-below (supply-of s) x (within-true x (supply-of s) (c .loop-farm .inv .1)),
-      mul-le (c .loop-farm .farm) (c .bundles-row .result) 48 4096 (omega (arith, c .pre .few)) (omega (arith, c .bundles-row .ensures, s .counted, s .small)),
-    )
+    let below = place-below s x (within-true x s (c .loop-farm .inv .1)) in
+    omega (arith, entry-small (c .args .supply .now) (c .loop-farm .farm) (c .bundles-row .result) (c .place .result) (omega (arith, c .pre .few)) (c .bundles-row .ensures) (omega (arith, c .place .ensures)))
 
 pub offset-table-farm : need.offset-table-farm
 offset-table-farm c =
-    let s = c .args .supply .now in
+    let s = supply-of (c .args .supply .now) in
     let x = units-of (c .loop-farm .x) in
-    omega (
-      arith,
-      c .place .ensures,
-      c .pre .few,
-      s .counted,
-      s .small,
-      place-below (supply-of s) x (within-true x (supply-of s) (c .loop-farm .inv .1)),
-      mul-le (c .loop-farm .farm) (c .bundles-row .result) 48 4096 (omega (arith, c .pre .few)) (omega (arith, c .bundles-row .ensures, s .counted, s .small)),
-    )
+    let below = place-below s x (within-true x s (c .loop-farm .inv .1)) in
+    omega (arith, entry-small (c .args .supply .now) (c .loop-farm .farm) (c .bundles-row .result) (c .place .result) (omega (arith, c .pre .few)) (c .bundles-row .ensures) (omega (arith, c .place .ensures)))
 
 pub index-table-farm : need.index-table-farm
 index-table-farm c =

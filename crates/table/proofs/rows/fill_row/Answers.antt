@@ -10,6 +10,7 @@ use Rattle.bundle.proofs.Bundles.{next-place}
 use Rattle.sheets.specs.Sheets.{bid-of, bids-of}
 use Rattle.table.specs.Tables.{made}
 use Rattle.table.proofs.Sheets.{few-lines}
+use Rattle.table.proofs.Sweeps.{places-front}
 use Rattle.table.proofs.TableRows.{row-more, row-rest, row-whole}
 use Rattle.table.proofs.rows.fill_row.Needs as need
 
@@ -23,7 +24,7 @@ best-at-most-requires c κs =
     let same = row-rest s below (c .args .rows .now) (c .loop-p .rows) (c .loop-p .p) (c .loop-p .inv .1) (bundles s) (omega (arith, c .bundles-p-end .ensures)) in
     record {
       few = few-lines (c .args .sheet .now) (c .lines-lines .result .now) (c .lines-lines .ensures);
-      placed = c .places-of-places .ensures;
+      placed = places-front s (c .lines-lines .result .now) (c .places-of-places .result) _ (c .places-of-places .ensures);
       roomy = record {
         long = omega (arith, c .pre .roomy .long, c .loop-p .kept .rows);
         small = λ p h. omega (
