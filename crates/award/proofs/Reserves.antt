@@ -1,4 +1,4 @@
--- Sales at reserve prices: more units kept are worth no less, and a charge covers the reserve. Assumes nothing.
+-- Sales at reserve prices: more units kept are worth no less, so the rule's theorems hold, and a charge covers the reserve. Assumes nothing.
 use mathlib.Core.Path.{_≡_, refl, sym, ap, _∙_}
 use mathlib.Core.List.{List, []}
 use Prim.Native.Nat.{ℕ, _<_}
@@ -11,12 +11,12 @@ use Rattle.bundle.specs.Units.{less, plus, Within}
 use Rattle.bundle.proofs.Bundles.{less-back}
 use Rattle.bundle.proofs.Worths.{priced-grows, priced-plus}
 use Rattle.table.specs.Tables.{at-reserve}
-use Rattle.vcg.specs.Auction.{taken}
+use Rattle.vcg.specs.Auction.{taken, with-bids}
 use Rattle.vcg.specs.Charges.{gets, Grows}
 use Rattle.vcg.specs.Optimum.{outcome-of}
 use Rattle.vcg.proofs.Outcomes.{outcome-exactly}
-use Rattle.vcg.proofs.Rule.{charge-at-least, taken-at}
-use Rattle.award.specs.Promises.{Sale-is-settled, Charge-covers-reserve}
+use Rattle.vcg.proofs.Rule.{charge-at-least, taken-at, truthful}
+use Rattle.award.specs.Promises.{Sale-is-settled, Charge-covers-reserve, True-sheet-is-best}
 
 pub reserve-grows : (supply prices : List ℕ) (sheets : List Bids) → Grows (at-reserve supply prices sheets)
 unfolding Grows
@@ -45,3 +45,11 @@ charge-covers-reserve supply prices sheets o i h ruled short =
       ap (priced prices) back,
       priced-plus prices g (less supply (plus g others)),
     )
+
+pub true-sheet-is-best : True-sheet-is-best
+unfolding with-bids
+true-sheet-is-best supply prices sheets i honest other h =
+    let a = at-reserve supply prices (set sheets i honest) in
+    let b = at-reserve supply prices (set sheets i other) in
+    truthful (at-reserve supply prices sheets) i honest other (outcome-of a) (outcome-of b) h (reserve-grows supply prices sheets)
+    (sale-is-settled supply prices (set sheets i honest) .ruled) (sale-is-settled supply prices (set sheets i other) .ruled)

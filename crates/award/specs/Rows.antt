@@ -1,4 +1,4 @@
--- What reading a choice from a row needs, and what it asks of a line. Assumes nothing: these are definitions.
+-- What reading a choice from a row needs. Assumes nothing: this is a definition.
 use mathlib.Core.List.{List}
 use Prim.Native.Nat.{ℕ, _^_, _<_, _≤_}
 use lib.ListN.{length, getD}

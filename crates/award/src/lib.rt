@@ -12,3 +12,4 @@ pub use refusals::AwardRefusalPartialEq;
 pub use theorems::charge_covers_reserve_stands;
 pub use theorems::sale_is_settled_stands;
 pub use theorems::samples_come_out_stands;
+pub use theorems::true_sheet_is_best_stands;

@@ -1,5 +1,5 @@
 // Theorems about sales at reserve prices.
-ghost use Rattle.award.specs.Promises.{Sale-is-settled, Charge-covers-reserve};
+ghost use Rattle.award.specs.Promises.{Sale-is-settled, Charge-covers-reserve, True-sheet-is-best};
 ghost use Rattle.award.specs.Samples.{Samples-come-out};
 
 // The outcome of a sale is by the rule.
@@ -12,6 +12,13 @@ pub fn sale_is_settled_stands() -> u8
 // A charge is at least the reserve of the units that the farm gets.
 pub fn charge_covers_reserve_stands() -> u8
     ensures { λ _. ⌜ Charge-covers-reserve ⌝ }
+{
+    0
+}
+
+// No sheet serves a farm better than the true one, whatever the others write.
+pub fn true_sheet_is_best_stands() -> u8
+    ensures { λ _. ⌜ True-sheet-is-best ⌝ }
 {
     0
 }

@@ -38,11 +38,6 @@ unfolding less
 less-nil [] = refl
 less-nil (a ∷ x) = refl
 
-pub plus-nil : (x : List ℕ) → plus x [] ≡ x
-unfolding plus
-plus-nil [] = refl
-plus-nil (a ∷ x) = refl
-
 pub nil-plus : (x : List ℕ) → plus [] x ≡ x
 unfolding plus
 nil-plus x = refl

@@ -5,11 +5,13 @@ use Prim.Native.Nat.{ℕ, suc, _+_, _-_, _*_, _^_, _≤_, _<_}
 use native.Mathlib.Nat.{add-mul}
 use native.Mathlib.Numerals.{add-one}
 use native.Mathlib.Omega.{arith}
-use borrow.Rule.Slice.PartMut.{putMid, same-len-mid}
+use borrow.Rule.Slice.PartMut.{putMid}
 use lib.ListN.{length, getD, set, take, drop}
 use Rattle.std.specs.Iters.{counting}
 use Rattle.std.proofs.shelf.Bits.{mul-le}
 use Rattle.std.proofs.shelf.Lists.{append-nil, drop-all, drop-at, drop-drop, drop-more, drop-set, getD-drop, getD-map, length-drop, length-map, length-take-le, set-split, take-rest}
+use Rattle.std.proofs.shelf.Tests.{cond-false, le-ltb}
+use Rattle.std.specs.declared.result.Result.the-variants.{Ok}
 use Rattle.bundle.specs.Bids.{Bids}
 use Rattle.bundle.specs.Units.{bundles, bundle-at, place, Within}
 use Rattle.bundle.proofs.Bundles.{length-bundle-at, bundle-at-within, place-below, within-refl}
@@ -19,9 +21,14 @@ use Rattle.vcg.specs.Auction.{no-bid}
 use Rattle.vcg.specs.Optimum.{best-among, optimum}
 use Rattle.vcg.proofs.Alike.{optimum-append, optimum-cap, optimum-like}
 use Rattle.table.specs.Offers.{Roomy, Small-row}
+use Rattle.table.specs.Refusals.{fill-answer}
 use Rattle.table.specs.Tables.{row, rows, entry, made, onto}
 use Rattle.table.proofs.Sheets.{stated-cap}
 use Rattle.table.proofs.TableRows.{length-row, getD-row, entry-row, entry-rows, getD-rows, rows-like, rows-more, rows-onto}
+
+-- a table with room for so many farms is filled
+pub room-enough : (farms b l : ℕ) → farms ≤ 48 → (farms + 1) * b ≤ l → fill-answer farms b l ≡ Ok tt
+room-enough farms b l few long = cond-false _ _ _ (le-ltb 48 farms few) ∙ cond-false _ _ _ (le-ltb l ((farms + 1) * b) long)
 
 -- m is the number of bundles b, as the code has it
 module _ (m b : ℕ) (many : m ≡ b) where
@@ -45,9 +52,6 @@ module _ (m b : ℕ) (many : m ≡ b) where
       ∙ drop-at (take (k * m) t) (ys ++ drop (length t - k * m) (drop (k * m) t)) (k * m) (length-take-le (k * m) t h)
       ∙ ap (λ l. ys ++ l) none
       ∙ append-nil ys
-
-  pub length-part : (t ys : List ℕ) (k : ℕ) → k * m ≤ length t → length ys ≡ length (take (length t - k * m) (drop (k * m) t)) → length (putMid (k * m) (length t - k * m) t ys) ≡ length t
-  length-part t ys k h = same-len-mid (k * m) (length t - k * m) t ys
 
 -- row k of a table, written over it from row k on
 pub written-row : (s : List ℕ) (m : ℕ) → m ≡ bundles s → (f : List ℕ → ℕ) (t ys : List ℕ) (k j : ℕ) → j ≡ k + 1 → k * m ≤ length t
@@ -119,6 +123,7 @@ row-cap s keep n low sheets few j rest p h =
       mul-le (length bs) (2 ^ 32) 48 (2 ^ 32) count (omega arith),
     )
 
+-- a row of small numbers
 pub small-row : (s : List ℕ) (f : List ℕ → ℕ) (t rest : List ℕ) (k : ℕ) → drop (k * bundles s) t ≡ row s f ++ rest
     → ((p : ℕ) → p < bundles s → f (bundle-at s p) ≤ 2 ^ 40) → Small-row (bundles s) k t
 small-row s f t rest k is low p h = omega (arith, getD-drop (k * bundles s) t p 0, ap (λ l. getD l p 0) is, getD-row s f rest p h, low p h)

@@ -9,7 +9,7 @@ use Rattle.bundle.specs.Units.{less, Within}
 use Rattle.bundle.proofs.Bundles.{length-less, less-within, within-refl, within-trans}
 use Rattle.vcg.specs.Auction.{no-bid, chosen}
 use Rattle.vcg.specs.Optimum.{better, best-among, optimum, first-among, pick}
-use Rattle.vcg.proofs.Alternatives.{best-up, pick-is}
+use Rattle.vcg.proofs.Alternatives.{pick-is}
 
 -- f and g agree on the bundles within s
 module _ (s : List ℕ) (f g : List ℕ → ℕ) (like : (y : List ℕ) → length y ≡ length s → Within y s → f y ≡ g y) where
@@ -47,12 +47,6 @@ optimum-append keep [] ds x = refl
 optimum-append keep (b ∷ bs) ds x =
     best-among-like x (optimum keep (bs ++ ds)) (optimum (optimum keep ds) bs) (λ y _ _. optimum-append keep bs ds y) x refl (within-refl x) b (optimum keep (bs ++ ds) x)
     ∙ ap (best-among (optimum (optimum keep ds) bs) x b) (optimum-append keep bs ds x)
-
--- all may stay unsold
-pub optimum-keeps : (keep : List ℕ → ℕ) (bs : List Bids) (x : List ℕ) → keep x ≤ optimum keep bs x
-unfolding optimum
-optimum-keeps keep [] x = omega arith
-optimum-keeps keep (b ∷ bs) x = omega (arith, optimum-keeps keep bs x, best-up (optimum keep bs) x b (optimum keep bs x))
 
 -- a bidder adds at most its highest stated worth
 pub optimum-cap : (keep : List ℕ → ℕ) (s : List ℕ) (n c : ℕ) → ((y : List ℕ) → length y ≡ length s → Within y s → keep y ≤ n)

@@ -4,7 +4,6 @@ use Prim.Native.Nat.{_+_, _*_, _≤_}
 use native.Mathlib.Omega.{arith}
 use lib.ListN.{length}
 use Rattle.std.proofs.shelf.Lists.{length-map}
-use Rattle.std.proofs.shelf.Tests.{cond-false, le-ltb}
 use Rattle.bundle.specs.Reserves.{prices-of, priced}
 use Rattle.bundle.specs.Stocks.{supply-of}
 use Rattle.bundle.specs.Units.{bundles, bundle-at}
@@ -12,7 +11,7 @@ use Rattle.bundle.proofs.Bundles.{bundle-at-within}
 use Rattle.bundle.proofs.Worths.{priced-cap}
 use Rattle.sheets.specs.Sheets.{bids-of}
 use Rattle.table.specs.Tables.{from-row}
-use Rattle.table.proofs.Layers.{filled-rows, small-row}
+use Rattle.table.proofs.Layers.{filled-rows, room-enough, small-row}
 use Rattle.table.proofs.TableRows.{rows-onto}
 use Rattle.table.proofs.filling.fill.Needs as need
 
@@ -44,6 +43,6 @@ returns c =
     let count = length-map (c .args .sheets .now) bids-of in
     let long : (n + 1) * bundles s ≤ length t = omega (arith, ap (λ k. (n + 1) * k) (c .bundles .ensures)) in
     record {
-      answer = sym (cond-false _ _ _ (le-ltb 48 n (omega arith)) ∙ cond-false _ _ _ (le-ltb (length t) ((n + 1) * bundles s) long));
+      answer = sym (room-enough n (bundles s) (length t) (omega arith) long);
       filled = filled-rows s keep bs n (from-row s (n + 1) t) (c .keep-last .last .table) (c .fill-rows .last .table) count (c .keep-last .ensures) (c .fill-rows .ensures) ∙ rows-onto s keep bs n t count;
     }

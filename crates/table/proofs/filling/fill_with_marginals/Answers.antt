@@ -4,13 +4,15 @@ use Prim.Native.Nat.{_+_, _*_, _≤_}
 use native.Mathlib.Omega.{arith}
 use lib.ListN.{length}
 use Rattle.std.proofs.shelf.Lists.{length-map}
-use Rattle.std.proofs.shelf.Tests.{cond-false, cond-true, eq-eqb, le-ltb}
+use Rattle.std.proofs.shelf.Tests.{cond-true, eq-eqb}
 use Rattle.bundle.specs.Reserves.{prices-of, priced}
 use Rattle.bundle.specs.Stocks.{supply-of}
 use Rattle.bundle.specs.Units.{bundles}
+use Rattle.bundle.proofs.Checks.{then-ok}
 use Rattle.sheets.specs.Sheets.{bids-of}
+use Rattle.table.specs.Refusals.{fill-answer}
 use Rattle.table.specs.Tables.{from-row, row, rows}
-use Rattle.table.proofs.Layers.{after-row}
+use Rattle.table.proofs.Layers.{after-row, room-enough}
 use Rattle.table.proofs.TableRows.{rows-onto}
 use Rattle.table.proofs.filling.fill_with_marginals.Needs as need
 
@@ -42,10 +44,7 @@ returns c =
     let count = length-map (c .args .sheets .now) bids-of in
     let long : (n + 1) * bundles s ≤ length t = omega (arith, ap (λ k. (n + 1) * k) (c .bundles .ensures)) in
     record {
-      answer = sym
-          (cond-false _ _ _ (le-ltb 48 n (omega arith))
-          ∙ cond-false _ _ _ (le-ltb (length t) ((n + 1) * bundles s) long)
-          ∙ cond-true _ _ _ (eq-eqb (length (c .args .without .now)) n (c .if-without-farms .left)));
+      answer = sym (then-ok (fill-answer n (bundles s) (length t)) _ tt (room-enough n (bundles s) (length t) (omega arith) long) ∙ cond-true _ _ _ (eq-eqb (length (c .args .without .now)) n (c .if-without-farms .left)));
       filled = c .fill-each .ensures .filled
           ∙ sym (rows-onto s keep bs n (c .keep-last .last .table) count)
           ∙ ap (λ l. rows s keep bs ++ l) (after-row s keep (c .keep-last .last .table) (from-row s (n + 1) t) n (c .keep-last .ensures))

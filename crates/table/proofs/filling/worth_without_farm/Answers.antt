@@ -3,7 +3,7 @@ use mathlib.Core.List.{map, _++_}
 use Prim.Native.Nat.{_+_, _-_, _*_, _≤_}
 use native.Mathlib.Nat.{add-mul}
 use native.Mathlib.Omega.{arith}
-use borrow.Rule.Slice.PartMut.{putMid}
+use borrow.Rule.Slice.PartMut.{putMid, same-len-mid}
 use lib.ListN.{length, getD, take, drop}
 use Rattle.std.proofs.shelf.Lists.{drop-at, getD-drop, length-drop, length-map, length-take-le, take-map, take-rest}
 use Rattle.bundle.specs.Stocks.{supply-of}
@@ -12,7 +12,7 @@ use Rattle.bundle.proofs.Bundles.{bundle-at-last, bundle-at-within, length-bund
 use Rattle.sheets.specs.Sheets.{bids-of}
 use Rattle.vcg.specs.Optimum.{optimum}
 use Rattle.table.specs.Tables.{rows, entry, onto}
-use Rattle.table.proofs.Layers.{below-part, length-part, empty-row, filled-rows, small-row, small-keep}
+use Rattle.table.proofs.Layers.{below-part, empty-row, filled-rows, small-row, small-keep}
 use Rattle.table.specs.Offers.{Small-row}
 use Rattle.table.proofs.TableRows.{getD-rows, length-rows}
 use Rattle.table.proofs.filling.worth_without_farm.Needs as need
@@ -58,7 +58,7 @@ fill-rows-requires c κs =
         add-mul k 1 (bundles s),
         add-mul k 2 (bundles s),
         c .pre .long,
-        length-part m (bundles s) (c .bundles-row .ensures) t ys k fits (c .fill-row .kept .rows),
+        same-len-mid (k * m) (length t - k * m) t ys (c .fill-row .kept .rows),
       );
       small = subst (λ n. Small-row (bundles s) n (putMid (k * m) (length t - k * m) t ys)) (sym count)
           (small-row s (entry s (drop ((k + 1) * bundles s) t)) (putMid (k * m) (length t - k * m) t ys) (drop ((k + 1) * bundles s) t) k last
@@ -74,7 +74,6 @@ index-table-row c =
     let t = c .args .table .now in
     let m = c .bundles-row .result in
     let k = c .args .farm in
-    let fits : k * m ≤ length t = omega (arith, c .pre .long, add-mul k 2 (bundles s), ap (λ n. k * n) (c .bundles-row .ensures)) in
     omega (
       arith,
       c .bundles-row .ensures,
@@ -82,7 +81,7 @@ index-table-row c =
       c .pre .long,
       add-mul k 2 (bundles s),
       c .fill-rows .kept .table,
-      length-part m (bundles s) (c .bundles-row .ensures) t (c .fill-row .last .rows) k fits (c .fill-row .kept .rows),
+      same-len-mid (k * m) (length t - k * m) t (c .fill-row .last .rows) (c .fill-row .kept .rows),
     )
 
 pub returns : need.returns
