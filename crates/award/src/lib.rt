@@ -1,4 +1,6 @@
 // Who gets what, and what each farm pays for it.
+#![tactic(auto)]
+
 mod charging;
 mod choosing;
 mod deciding;

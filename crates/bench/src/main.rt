@@ -1,4 +1,6 @@
 // bench: how long filling the table takes for sales of the largest size.
+#![tactic(auto)]
+
 mod random;
 mod sales;
 

@@ -1,4 +1,3 @@
 pub mod Books
-pub mod Places
 pub mod Posting
 pub mod Promises

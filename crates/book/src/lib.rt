@@ -1,4 +1,6 @@
 // The book of a sale: one place for each farm, with its account, the number of its last taken message and the sheet of that message.
+#![tactic(auto)]
+
 mod answers;
 mod posting;
 mod state;

@@ -1,11 +1,9 @@
 // The book: opened, and changed by messages.
-ghost use Rattle.std.specs.Prelude.{◌≡◌, ◌<◌, ◌≤◌, ◌||◌, map, length, take, IfSome, if◌then◌else◌, Some, None, Ok, nat_eq, nat_lt, slice_index};
+ghost use Rattle.std.specs.Prelude.{◌≡◌, ◌<◌, ◌≤◌, ◌||◌, map, length, take, IfSome, if◌then◌else◌, Some, None, Ok, nat_eq, nat_lt};
 ghost use Rattle.std.specs.Option.{option_map};
-ghost use Rattle.bundle.specs.Stocks.{supply_of};
-ghost use Rattle.sheets.specs.Allowed.{Allowed};
-ghost use Rattle.sheets.specs.Sheets.{bids_of, submission_of};
-ghost use Rattle.book.specs.Books.{entries_of, book_supply};
-ghost use Rattle.book.specs.Posting.{fresh, accounts_of, numbers_of, bids_in, emptied, read_for, put, post, answer_of};
+ghost use Rattle.sheets.specs.Sheets.{submission_of};
+ghost use Rattle.book.specs.Books.{entries_of, book_supply, standing};
+ghost use Rattle.book.specs.Posting.{fresh, read_for, put, post, answer_of};
 
 use crate::answers::Answer;
 use crate::state::Book;
@@ -46,8 +44,7 @@ impl Book {
 
     // The book with the message in its farm's place.
     fn holding(mut self, message: Message) -> Book
-        requires known { message.farm < self.farms }
-        requires allowed { Allowed (supply_of self.supply) (slice_index self.accounts message.farm) (bids_of message.sheet) }
+        requires { message.farm < self.farms }
         ensures places { entries_of result ≡ put (entries_of self) (Ok (submission_of message)) }
         ensures terms { result.supply ≡ self.supply }
     {
@@ -63,7 +60,7 @@ impl Book {
         ensures terms { result.0.supply ≡ self.supply }
         ensures answer { result.1 ≡ answer_of (read_for (book_supply self) (entries_of self) bytes.now) }
     {
-        let accounts = self.accounts();
+        let accounts = &self.accounts[0..self.farms];
         let numbers = &self.numbers[0..self.farms];
         match read(bytes, &self.supply, accounts, numbers) {
             Ok(message) => (self.holding(message), Answer::Taken),
@@ -71,37 +68,16 @@ impl Book {
         }
     }
 
-    // What the sheets are checked against.
-    pub fn supply(&self) -> Supply
-        ensures { supply_of result ≡ book_supply self.now }
+    // How many farms have a sheet with at least one line.
+    pub fn standing(&self) -> usize
+        ensures { result ≡ standing (entries_of self.now) }
     {
-        self.supply
-    }
-
-    // The accounts of the farms.
-    pub fn accounts(&self) -> &[u64]
-        ensures { result.now ≡ accounts_of (entries_of self.now) }
-    {
-        &self.accounts[0..self.farms]
-    }
-
-    // The sheets of the farms.
-    pub fn sheets(&self) -> &[Sheet]
-        ensures { map bids_of result.now ≡ bids_in (entries_of self.now) }
-    {
-        &self.sheets[0..self.farms]
-    }
-
-    // The book with these accounts, under the same numbers and with no sheets; as it is where there is not one account for each farm.
-    pub fn emptied(mut self, accounts: &[u64]) -> Book
-        ensures places { entries_of result ≡ (if nat_eq (length accounts.now) (length (entries_of self)) then emptied accounts.now (numbers_of (entries_of self)) else entries_of self) }
-        ensures terms { result.supply ≡ self.supply }
-    {
-        if accounts.len() != self.farms {
-            return self;
+        let mut n = 0;
+        for k in 0..self.farms {
+            if self.sheets[k].lines().len() > 0 {
+                n += 1;
+            }
         }
-        self.accounts = accounts_of(accounts);
-        self.sheets = [Sheet::new(); 48];
-        self
+        n
     }
 }

@@ -1,4 +1,6 @@
 // Lots in units: bundles of them, the supply that is for sale, and the reserve below which it is not.
+#![tactic(auto)]
+
 mod arithmetic;
 mod places;
 mod prices;

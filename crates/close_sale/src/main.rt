@@ -1,48 +1,69 @@
-// close_sale FILE: opens the sale of a file, takes its messages, closes it, and prints what comes of it.
-mod telling;
+// close_sale FILE: opens the sale of a file, takes its messages, and prints which are refused.
+#![tactic(auto)]
 
 use anyhow::anyhow;
-use std::{env, fs};
-use telling::tell;
+use book::Answer;
+use sale::Sale;
+use session::{RunRefusal, message_count, run};
+use std::{env, fs, io};
 
 const USAGE: &str = "usage: close_sale FILE | --help";
 
 const HELP: &str = "usage: close_sale FILE
 
-Opens the sale that FILE describes, takes its messages in their order, closes it, and
-prints
+Opens the sale that FILE describes, takes its messages in their order, and prints
 
   message K refused N at P    for each message that is refused: its number in the
                               file from 0, the number of the check that it fails,
                               and the place of the fault
-  worth W                     the worth of the award
-  farm I line L pays C has A  for each farm: the number of the line of its sheet that
-                              it is awarded, from 1, or 0 for none; what it pays; and
-                              its account then
-  company A                   the company's account then
+  sheets N                    the number of farms whose sheet has at least one line
 
-or, where the sale is not opened or not closed, in place of the lines from worth on,
+or, where the opening is refused,
 
   sale refused N at P
 
-A sale whose table has more than 8,192 entries (the number of bundles times one more than
-the number of farms) is not closed: 15 at 0. The formats and the numbers are in
-docs/FORMATS.md. The status is 0 where the sale is closed, and 1 where it is not or FILE
-cannot be read.
+The formats and the numbers are in docs/FORMATS.md. The status is 0 where the sale is
+opened, and 1 where it is refused or FILE cannot be read.
 ";
 
-// The entries of the largest table that there is room for.
-const TABLE_ENTRIES: usize = 8192;
+// The lines of the messages that are refused.
+fn print_refused(rt: &HostRuntime, answers: &[Answer]) -> io::Result<()> {
+    for (k, answer) in answers.iter().enumerate() {
+        if let Answer::Refused(refusal) = *answer {
+            let number = refusal.number();
+            let place = refusal.place();
+            println!(rt; "message {k} refused {number} at {place}")?;
+        }
+    }
+    Ok(())
+}
 
-// A sale that is not closed ends with status 1.
+fn print_sale(rt: &HostRuntime, sale: &Sale, answers: &[Answer]) -> anyhow::Result<()> {
+    print_refused(rt, answers)?;
+    let sheets = sale.standing();
+    println!(rt; "sheets {sheets}")?;
+    Ok(())
+}
+
+// A refused sale is told of on standard output, and ends with status 1.
+fn print_refusal(rt: &HostRuntime, refusal: RunRefusal) -> anyhow::Result<()> {
+    match refusal {
+        RunRefusal::Opening(refusal) => {
+            let number = refusal.number();
+            let place = refusal.place();
+            println!(rt; "sale refused {number} at {place}")?;
+        }
+        RunRefusal::Room(count) => eprintln!(rt; "close_sale: no room for {count} answers")?,
+    }
+    Err(anyhow!("the sale is refused"))
+}
+
 fn close(rt: &HostRuntime, file: &[u8]) -> anyhow::Result<()> {
-    let told = tell(rt.alloc(), file, TABLE_ENTRIES)?;
-    let text = told.text.as_str();
-    print!(rt; "{text}")?;
-    if told.closed {
-        Ok(())
-    } else {
-        Err(anyhow!("the sale is not closed"))
+    let count = message_count(file);
+    let mut answers = vec![in rt.alloc(); Answer::Taken; count]?;
+    match run(file, &mut answers) {
+        Ok(sale) => print_sale(rt, &sale, &answers),
+        Err(refusal) => print_refusal(rt, refusal),
     }
 }
 

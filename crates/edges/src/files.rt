@@ -1,14 +1,7 @@
 // Whole files, and files that are cut short.
-use crate::answers::{UNTOLD, all_told, closed, told};
+use crate::answers::told;
 use book::Answer;
 use session::{RunRefusal, message_count, run};
-use std::process::Abort;
-use std::test::Fail;
-
-// Two lots of one unit at 10, three farms with 200, 100 and 100, and 1,000 in the company's account: 32 bytes; then three messages
-// of 12 bytes, which write 120 for both lots, 70 for the first and 60 for the second.
-const THREE: &[u8] =
-    b"\x02\x01\x0a\0\0\0\x01\x0a\0\0\0\x03\xc8\0\0\0\x64\0\0\0\x64\0\0\0\xe8\x03\0\0\0\0\0\0\x0c\0\0\x01\0\0\0\x01\x78\0\0\0\x01\x01\x0c\0\x01\x01\0\0\0\x01\x46\0\0\0\x01\0\x0c\0\x02\x01\0\0\0\x01\x3c\0\0\0\0\x01";
 
 // One lot of 2 units at 5, two farms with 100 and 50, and 7 in the company's account: 23 bytes; then two messages of 11 bytes,
 // the second with a worth above its account, and a byte more.
@@ -25,17 +18,10 @@ const CUTS: [(usize, usize, u8, usize); 6] = [
     (50, 3, 2, 0),
 ];
 
-// What a run is refused with, or (0, 0); one that is refused has to leave its rows as they were.
-fn refused(rt: &impl Abort, file: &[u8], answers: &mut [Answer]) -> Result<(u8, usize), Fail> {
-    let mut table = [7; 9];
-    let mut award = [7; 2];
-    let mut charges = [7; 2];
-    match run(file, answers, &mut table, &mut award, &mut charges) {
-        Ok(_) => Ok((0, 0)),
-        Err(refusal) => {
-            assert!(rt; table == [7; 9] && award == [7; 2] && charges == [7; 2]);
-            Ok(numbers_of(refusal))
-        }
+fn refused(file: &[u8], row: &mut [Answer]) -> (u8, usize) {
+    match run(file, row) {
+        Ok(_) => (0, 0),
+        Err(refusal) => numbers_of(refusal),
     }
 }
 
@@ -47,77 +33,31 @@ fn numbers_of(refusal: RunRefusal) -> (u8, usize) {
 }
 
 #[test]
-fn openings(rt: HostRuntime) -> Result<(), Fail> {
+fn openings(rt: HostRuntime) {
     assert!(rt; FILE.len() == 50);
     for size in 0..23 {
-        assert_eq!(rt; refused(&rt, &FILE[0..size], &mut [])?, (9, 0));
+        assert_eq!(rt; refused(&FILE[0..size], &mut []), (9, 0));
     }
-    assert_eq!(rt; refused(&rt, &FILE[0..23], &mut [])?, (0, 0));
+    assert_eq!(rt; refused(&FILE[0..23], &mut []), (0, 0));
     assert_eq!(rt; message_count(&FILE[0..23]), 0);
-    Ok(())
 }
 
 #[test]
-fn messages(rt: HostRuntime) -> Result<(), Fail> {
+fn messages(rt: HostRuntime) {
     assert!(rt; FILE.len() == 50);
     for (size, count, number, place) in CUTS {
         assert!(rt; size <= 50 && count >= 1 && count <= 3);
-        let mut row = [UNTOLD; 3];
+        let mut row = [Answer::Taken; 3];
         assert_eq!(rt; message_count(&FILE[0..size]), count);
-        assert_eq!(rt; refused(&rt, &FILE[0..size], &mut row)?, (0, 0));
+        assert_eq!(rt; refused(&FILE[0..size], &mut row), (0, 0));
         assert_eq!(rt; told(row[count - 1]), (number, place));
     }
-    Ok(())
 }
 
-// A row that is too short for the answers, and a lot of 65 units: no answer is told.
+// A row that is too short is refused, and left as it was.
 #[test]
-fn untold(rt: HostRuntime) -> Result<(), Fail> {
-    let mut row = [UNTOLD; 2];
-    assert_eq!(rt; refused(&rt, FILE, &mut row)?, (255, 3));
-    assert!(rt; all_told(&row, &[(1, 9); 2]));
-    assert!(rt; FILE.len() == 50);
-    let mut file = [0; 50];
-    file.copy_from_slice(FILE);
-    file[1] = 65;
-    let mut row = [UNTOLD; 3];
-    assert_eq!(rt; refused(&rt, &file, &mut row)?, (10, 0));
-    assert!(rt; all_told(&row, &[(1, 9); 3]));
-    Ok(())
-}
-
-// A whole run to the close, with a table that is just long enough.
-#[test]
-fn three_farms(rt: HostRuntime) -> Result<(), Fail> {
-    let mut answers = [UNTOLD; 4];
-    let mut table = [7; 16];
-    let mut award = [7; 3];
-    let mut charges = [7; 3];
-    let Ok(session) = run(THREE, &mut answers, &mut table, &mut award, &mut charges) else {
-        return Err(Fail::new("refused"));
-    };
-    assert_eq!(rt; closed(session.closing), (130, 0, 0));
-    assert!(rt; all_told(&answers, &[(0, 0), (0, 0), (0, 0), (1, 9)]));
-    assert!(rt; award == [0, 1, 1] && charges == [0, 60, 50]);
-    let sale = session.sale;
-    assert!(rt; sale.accounts() == &[200, 40, 50] && sale.company() == 1110);
-    Ok(())
-}
-
-// A table that is one entry short: the messages are answered, and the sale is not closed.
-#[test]
-fn too_large(rt: HostRuntime) -> Result<(), Fail> {
-    let mut answers = [UNTOLD; 3];
-    let mut table = [7; 8];
-    let mut award = [7; 2];
-    let mut charges = [7; 2];
-    let Ok(session) = run(FILE, &mut answers, &mut table, &mut award, &mut charges) else {
-        return Err(Fail::new("refused"));
-    };
-    assert_eq!(rt; closed(session.closing), (0, 15, 0));
-    assert!(rt; all_told(&answers, &[(0, 0), (7, 6), (2, 0)]));
-    assert!(rt; table == [7; 8] && award == [7; 2] && charges == [7; 2]);
-    let sale = session.sale;
-    assert!(rt; sale.accounts() == &[100, 50] && sale.company() == 7);
-    Ok(())
+fn rooms(rt: HostRuntime) {
+    let mut row = [Answer::Taken; 2];
+    assert_eq!(rt; refused(FILE, &mut row), (255, 3));
+    assert_eq!(rt; told(row[1]), (0, 0));
 }

@@ -1,4 +1,2 @@
-pub mod Closes
 pub mod Copies
-pub mod Lives
 pub mod Openings

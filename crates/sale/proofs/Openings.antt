@@ -1,5 +1,5 @@
 -- When a sale is opened, check by check. Assumes nothing.
-use Rattle.std.proofs.Common.{◌≡◌, ℕ, zero, suc, ◌+◌, ◌<◌, ◌≤◌, false, ◌||◌, eqb, ltb, List, [], ◌∷◌, map, length, get_or, drop, Some, None, Ok, Err, Option, Result, refl, ap, ◌∙◌, subst, arith}
+use Rattle.std.proofs.Common.{◌≡◌, ℕ, zero, suc, ◌+◌, ◌<◌, ◌≤◌, ◌||◌, eqb, ltb, List, [], ◌∷◌, map, length, get_or, drop, Some, None, Ok, Err, Option, Result, refl, ap, ◌∙◌, subst, arith}
 use Rattle.std.proofs.lemmas.List.{length-map, at_drop_more, at_drop_all}
 use Rattle.std.proofs.lemmas.Bool.{cond-true, cond-false, or_from, or_parts, ne_eqb, lt-ltb, le-ltb, eqb-false, ltb-false}
 use Rattle.bundle.proofs.Checks.{then_back, then_ok, cond_past, cond_none}
@@ -125,8 +125,8 @@ pub company_ok : (n : ℕ) → n ≤ 1000000000000000 → company_checked n ≡ 
 company_ok n h = cond-false _ _ _ (le-ltb 1000000000000000 n h)
 
 -- the sale that is opened holds what was given
-state-own : (us s ps r xs x : List ℕ) (n m : ℕ) (h : State) → ◌≡◌ {A = Result State OpeningRefusal} (Ok (record { supply = s; reserve = r; entries = map fresh x; company = m; closed = false })) (Ok h) →
-    s ≡ us → r ≡ ps → x ≡ xs → m ≡ n → h ≡ record { supply = us; reserve = ps; entries = map fresh xs; company = n; closed = false }
+state-own : (us s ps r xs x : List ℕ) (n m : ℕ) (h : State) → ◌≡◌ {A = Result State OpeningRefusal} (Ok (record { supply = s; reserve = r; entries = map fresh x; company = m })) (Ok h) →
+    s ≡ us → r ≡ ps → x ≡ xs → m ≡ n → h ≡ record { supply = us; reserve = ps; entries = map fresh xs; company = n }
 state-own us s ps r xs x n m h e p q t u = cc
 
 opens_back : (lots : List Lot) (accounts : List ℕ) (company : ℕ) (h : State) → open_sale lots accounts company ≡ Ok h →

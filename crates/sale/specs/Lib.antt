@@ -1,5 +1,3 @@
-pub mod Closing
+pub mod States
 pub mod Numbers
 pub mod Opening
-pub mod Promises
-pub mod States

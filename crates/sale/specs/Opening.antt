@@ -1,5 +1,5 @@
 -- How a sale is opened, check by check. Assumes nothing: these are definitions and a statement.
-use Rattle.std.specs.Prelude.{◌≡◌, ℕ, ◌+◌, ◌≤◌, Bool, false, cond, ◌||◌, List, [], ◌∷◌, map, length, Some, None, Ok, Err, Option, Result, ◌==◌, nat_lt, slice_index}
+use Rattle.std.specs.Prelude.{◌≡◌, ℕ, ◌+◌, ◌≤◌, cond, ◌||◌, List, [], ◌∷◌, map, length, Some, None, Ok, Err, Option, Result, ◌==◌, nat_lt, slice_index}
 use Rattle.bundle.specs.Checks.{and_then}
 use Rattle.bundle.specs.Reserves.{reserve_in}
 use Rattle.bundle.specs.Supplies.{Sold, supply_in}
@@ -10,13 +10,12 @@ use Rattle.sale.specs.declared.lots.Lot.{Lot}
 use Rattle.sale.specs.declared.refusals.OpeningRefusal.{OpeningRefusal}
 use Rattle.sale.specs.declared.refusals.OpeningRefusal.TheVariants.{LotCount, Supply, Price, FarmCount, Account, Company}
 
--- what a sale holds: its terms, a place for each farm, the company's account, and whether it is closed
+-- what a sale holds: its terms, a place for each farm, and the company's account
 pub record State : Type 0 where
   pub supply : List ℕ
   pub reserve : List ℕ
   pub entries : List Entry
   pub company : ℕ
-  pub closed : Bool
 
 abbrev pub units_of_lots : List Lot → List ℕ
 units_of_lots ls = map (λ (l : Lot). l.units) ls
@@ -66,7 +65,7 @@ open_sale lots accounts company =
     and_then (farms_checked accounts) (λ farms.
     and_then (accounts_checked farms) (λ held.
     and_then (company_checked company) (λ purse.
-    Ok (record { supply = supply; reserve = reserve; entries = map fresh held; company = purse; closed = false }))))))
+    Ok (record { supply = supply; reserve = reserve; entries = map fresh held; company = purse }))))))
 
 -- when a sale is opened: the lots can be sold, at a reserve of at most 1,000,000 each, there are 1 to 48 farms, with at most 1,000,000,000 each, and the company has at most 10^15
 pub record Opens (lots : List Lot) (accounts : List ℕ) (company : ℕ) : Type 0 where
@@ -80,7 +79,7 @@ pub record Opens (lots : List Lot) (accounts : List ℕ) (company : ℕ) : Type 
 -- the sale that is opened, with no message yet
 abbrev pub opened : List Lot → List ℕ → ℕ → State
 opened lots accounts company =
-    record { supply = units_of_lots lots; reserve = prices_of_lots lots; entries = map fresh accounts; company = company; closed = false }
+    record { supply = units_of_lots lots; reserve = prices_of_lots lots; entries = map fresh accounts; company = company }
 
 -- a sale is opened exactly then
 abbrev pub OpensExactly : Type 0

@@ -1,16 +1,17 @@
 // Opens a sale. The checks stand in the order in which an opening is checked.
-ghost use Rattle.std.specs.Prelude.{◌≡◌, ◌≤◌, length, take, OnOk};
+ghost use Rattle.std.specs.Prelude.{◌≡◌, ◌≤◌, [], ◌∷◌, length, take, OnOk};
 ghost use Rattle.bundle.specs.Checks.{viewed};
 ghost use Rattle.bundle.specs.Reserves.{prices_of, reserve_in};
 ghost use Rattle.bundle.specs.Stocks.{supply_of};
 ghost use Rattle.bundle.specs.Supplies.{supply_in};
-ghost use Rattle.sale.specs.States.{state_of};
+ghost use Rattle.book.specs.Books.{standing};
+ghost use Rattle.sale.specs.States.{state_of, after, reply};
 ghost use Rattle.sale.specs.Opening.{units_of_lots, prices_of_lots, supply_refused, lots_checked, prices_checked, overfull, open_sale};
 
 use crate::lots::Lot;
 use crate::refusals::OpeningRefusal;
 use crate::state::Sale;
-use book::Book;
+use book::{Answer, Book};
 use bundle::{Reserve, Supply, SupplyRefusal};
 
 const MAX_LOTS: usize = 12;
@@ -112,7 +113,27 @@ impl Sale {
             book,
             reserve,
             company,
-            closed: false,
         })
+    }
+
+    // The sale after a message, and what is told of it.
+    pub fn post(self, bytes: &[u8]) -> (Sale, Answer)
+        ensures state { state_of result.0 ≡ after (state_of self) (bytes.now ∷ []) }
+        ensures answer { result.1 ≡ reply (state_of self) bytes.now }
+    {
+        let (book, answer) = self.book.post(bytes);
+        let sale = Sale {
+            book,
+            reserve: self.reserve,
+            company: self.company,
+        };
+        (sale, answer)
+    }
+
+    // How many farms have a sheet with at least one line.
+    pub fn standing(&self) -> usize
+        ensures { result ≡ standing (state_of self.now).entries }
+    {
+        self.book.standing()
     }
 }

@@ -3,7 +3,7 @@ use Rattle.std.proofs.Common.{◌≡◌, ℕ, ◌+◌, ◌-◌, ◌*◌, ◌<◌
 use Rattle.std.proofs.lemmas.List.{take_all, take-append-drop, length-drop}
 use Rattle.std.proofs.lemmas.Bool.{cases_lt}
 use Rattle.book.specs.declared.answers.Answer.{Answer}
-use Rattle.sale.specs.States.{next, after, reply, replies}
+use Rattle.sale.specs.States.{after, reply, replies}
 use Rattle.sale.specs.Opening.{State}
 use Rattle.session.specs.Frames.{messages}
 use Rattle.session.specs.Parts.{Framed}
@@ -51,7 +51,7 @@ framed-next bs at to h e =
     }
 
 -- h is the sale before the message m and those of rest, k the one after m
-module _ (h k : State) (m : List ℕ) (ms rest : List (List ℕ)) (here : ms ≡ m ∷ rest) (is : k ≡ next h m) where
+module _ (h k : State) (m : List ℕ) (ms rest : List (List ℕ)) (here : ms ≡ m ∷ rest) (is : k ≡ after h (m ∷ [])) where
   pub after_more : after k rest ≡ after h ms
   after_more = ap (λ s. after s rest) is ∙ ap (after h) (sym here)
 

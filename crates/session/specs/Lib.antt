@@ -1,5 +1,4 @@
 pub mod Files
 pub mod Frames
 pub mod Parts
-pub mod Promises
 pub mod Session

@@ -1,18 +1,14 @@
--- The run over a file: the opening, then the messages, then the close. Assumes nothing: these are definitions.
+-- The run over a file: the opening, then the messages. Assumes nothing: these are definitions.
 use Rattle.std.specs.Prelude.{ℕ, zero, suc, ◌+◌, ◌*◌, cond, List, [], ◌∷◌, ◌++◌, length, drop, Ok, Err, Result, nat_lt, slice_index}
 use Rattle.bundle.specs.Checks.{and_then}
 use Rattle.sheets.specs.Reading.{u32_at}
 use Rattle.book.specs.declared.answers.Answer.{Answer}
-use Rattle.accounts.specs.Closing.{Rows}
-use Rattle.sale.specs.Closing.{close_answer, close_sale, close_rows}
-use Rattle.sale.specs.States.{state_of, after, replies}
+use Rattle.sale.specs.States.{after, replies}
 use Rattle.sale.specs.Opening.{State, open_sale}
 use Rattle.sale.specs.declared.lots.Lot.{Lot}
-use Rattle.sale.specs.declared.refusals.ClosingRefusal.{ClosingRefusal}
 use Rattle.sale.specs.declared.refusals.OpeningRefusal.{OpeningRefusal}
 use Rattle.sale.specs.declared.refusals.OpeningRefusal.TheVariants.{LotCount}
 use Rattle.session.specs.Frames.{messages}
-use Rattle.session.specs.declared.ended.Session.{Session}
 use Rattle.session.specs.declared.refusals.RunRefusal.{RunRefusal}
 use Rattle.session.specs.declared.refusals.RunRefusal.TheVariants.{Opening, Room}
 
@@ -51,48 +47,26 @@ opening_in bs =
 abbrev pub messages_in : List ℕ → List (List ℕ)
 messages_in bs = messages (drop (opening_size bs) bs)
 
--- what the run leaves: what is answered to each message, the sale and the lent rows after the close, and what is answered to the close
+-- what the run leaves: the sale after all messages, and what is answered to each
 pub record Outcome : Type 0 where
+  pub state : State
   pub told : List Answer
-  pub state : State
-  pub rows : Rows
-  pub answer : Result ℕ ClosingRefusal
 
--- the sale takes the messages and is closed
-abbrev pub outcome : State → List (List ℕ) → Rows → Outcome
-outcome h ms rows = record { told = replies h ms; state = close_sale (after h ms) rows; rows = close_rows (after h ms) rows; answer = close_answer (after h ms) rows }
-
-abbrev pub run : List ℕ → Rows → Result Outcome OpeningRefusal
-run bs rows = and_then (opening_in bs) (λ h. Ok (outcome h (messages_in bs) rows))
-
--- the sale at the end, and the answer to its close
-pub record Ending : Type 0 where
-  pub state : State
-  pub answer : Result ℕ ClosingRefusal
-
-abbrev pub ending_of : Session → Ending
-ending_of s = record { state = state_of s.sale; answer = s.closing }
-
-abbrev pub ran : Result Outcome OpeningRefusal → Result Ending RunRefusal
-ran (Ok o) = Ok (record { state = o.state; answer = o.answer })
-ran (Err e) = Err (Opening e)
+abbrev pub run : List ℕ → Result Outcome OpeningRefusal
+run bs = and_then (opening_in bs) (λ h. Ok (record { state = after h (messages_in bs); told = replies h (messages_in bs) }))
 
 -- the same where there is room for so many answers
-abbrev pub run_within : ℕ → List ℕ → Rows → Result Ending RunRefusal
-run_within room bs rows = cond (nat_lt room (length (messages_in bs))) (Err (Room (length (messages_in bs)))) (ran (run bs rows))
+abbrev pub ran : Result Outcome OpeningRefusal → Result State RunRefusal
+ran (Ok o) = Ok o.state
+ran (Err e) = Err (Opening e)
+
+abbrev pub run_within : ℕ → List ℕ → Result State RunRefusal
+run_within room bs = cond (nat_lt room (length (messages_in bs))) (Err (Room (length (messages_in bs)))) (ran (run bs))
 
 -- what the row of answers holds then: the answers at its front; what is refused changes nothing
 abbrev pub noted : Result Outcome OpeningRefusal → List Answer → List Answer
 noted (Ok o) row = o.told ++ drop (length o.told) row
 noted (Err e) row = row
 
-abbrev pub told_within : List Answer → List ℕ → Rows → List Answer
-told_within row bs rows = cond (nat_lt (length row) (length (messages_in bs))) row (noted (run bs rows) row)
-
--- and what the other rows hold
-abbrev pub left : Result Outcome OpeningRefusal → Rows → Rows
-left (Ok o) rows = o.rows
-left (Err e) rows = rows
-
-abbrev pub rows_within : ℕ → List ℕ → Rows → Rows
-rows_within room bs rows = cond (nat_lt room (length (messages_in bs))) rows (left (run bs rows) rows)
+abbrev pub told_within : List Answer → List ℕ → List Answer
+told_within row bs = cond (nat_lt (length row) (length (messages_in bs))) row (noted (run bs) row)

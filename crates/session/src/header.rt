@@ -41,8 +41,7 @@ fn count_lots(file: &[u8]) -> usize
     byte_at(file, 0) as usize
 }
 
-// How many farms the file names.
-pub fn farm_count(file: &[u8]) -> usize
+fn count_farms(file: &[u8]) -> usize
     ensures value { result ≡ farm_count file.now }
     ensures small { result ≤ 255 }
 {
@@ -53,7 +52,7 @@ pub fn farm_count(file: &[u8]) -> usize
 pub(crate) fn size_of_opening(file: &[u8]) -> usize
     ensures { result ≡ opening_size file.now }
 {
-    2 + count_lots(file) * 5 + farm_count(file) * 4 + 8
+    2 + count_lots(file) * 5 + count_farms(file) * 4 + 8
 }
 
 fn read_lots(file: &[u8], count: usize) -> [Lot; 255]
@@ -94,7 +93,7 @@ pub(crate) fn open(file: &[u8]) -> Result<Sale, OpeningRefusal>
         return Err(OpeningRefusal::LotCount(0));
     }
     let count = count_lots(file);
-    let farms = farm_count(file);
+    let farms = count_farms(file);
     let from = 2 + count * 5;
     let lots = read_lots(file, count);
     let accounts = read_accounts(file, from, farms);

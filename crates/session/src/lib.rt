@@ -1,13 +1,12 @@
-// A session over a sale's file: the opening, then the messages, each after two bytes of length, and then the close.
-mod ended;
+// A session over a sale's file: the opening, then the messages, each after two bytes of length.
+#![tactic(auto)]
+
 mod frames;
 mod header;
 mod refusals;
 mod running;
 mod theorems;
 
-pub use ended::Session;
-pub use header::farm_count;
 pub use refusals::RunRefusal;
 pub use running::{message_count, run};
 pub use theorems::{file_back_stands, frames_back_stands};

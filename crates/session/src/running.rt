@@ -1,12 +1,9 @@
 // Runs a file.
 ghost use Rattle.std.specs.Prelude.{◌≡◌, ◌≤◌, ◌++◌, length, drop};
 ghost use Rattle.bundle.specs.Checks.{viewed};
-ghost use Rattle.accounts.specs.Closing.{lent};
 ghost use Rattle.sale.specs.States.{state_of, after, replies};
-ghost use Rattle.session.specs.Promises.{TrueFileIsBest};
-ghost use Rattle.session.specs.Session.{messages_in, ending_of, run_within, told_within, rows_within};
+ghost use Rattle.session.specs.Session.{messages_in, run_within, told_within};
 
-use crate::ended::Session;
 use crate::frames::{Frame, frame_at};
 use crate::header::{open, size_of_opening};
 use crate::refusals::RunRefusal;
@@ -46,31 +43,18 @@ fn post_all(mut sale: Sale, file: &[u8], row: &mut [Answer]) -> Sale
     sale
 }
 
-// Opens the sale of a file, takes its messages and closes it; what each message is answered stands at the front of the row of answers, and the
-// table, the award and the charges stand in the other rows. Refused, with all rows as they were, where the row of answers is too short, or the opening
-// is refused; where only the close is refused, the table, the award and the charges are as they were.
-pub fn run(
-    file: &[u8],
-    answers: &mut [Answer],
-    table: &mut [u64],
-    award: &mut [u64],
-    charges: &mut [u64],
-) -> Result<Session, RunRefusal>
-    ensures value { viewed ending_of result ≡ run_within (length answers.old) file.now (lent table.old award.old charges.old) }
-    ensures told { answers.new ≡ told_within answers.old file.now (lent table.old award.old charges.old) }
-    ensures rows { lent table.new award.new charges.new ≡ rows_within (length answers.old) file.now (lent table.old award.old charges.old) }
-    ensures truthful { TrueFileIsBest }
+// Opens the sale of a file and takes its messages; what each is answered stands at the front of the row.
+// Refused, with the row as it was, where the row is too short for the answers, or the opening is refused.
+pub fn run(file: &[u8], row: &mut [Answer]) -> Result<Sale, RunRefusal>
+    ensures value { viewed state_of result ≡ run_within (length row.old) file.now }
+    ensures told { row.new ≡ told_within row.old file.now }
 {
     let count = message_count(file);
-    if answers.len() < count {
+    if row.len() < count {
         return Err(RunRefusal::Room(count));
     }
     match open(file) {
-        Ok(sale) => {
-            let sale = post_all(sale, file, answers);
-            let (sale, closing) = sale.close(table, award, charges);
-            Ok(Session { sale, closing })
-        }
+        Ok(sale) => Ok(post_all(sale, file, row)),
         Err(refusal) => Err(RunRefusal::Opening(refusal)),
     }
 }

@@ -1,4 +1,6 @@
 // Messages with sheets of bids: read from bytes, and written.
+#![tactic(auto)]
+
 mod build;
 mod numbers;
 mod parts;

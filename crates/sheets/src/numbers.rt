@@ -9,7 +9,6 @@ impl MessageRefusal {
         ensures { result ≡ message_number self }
     {
         match self {
-            MessageRefusal::Closed(_) => 1,
             MessageRefusal::Short(_) => 2,
             MessageRefusal::NoFarm(_) => 3,
             MessageRefusal::OldNumber(_) => 4,
@@ -24,8 +23,7 @@ impl MessageRefusal {
         ensures { result ≡ message_place self }
     {
         match self {
-            MessageRefusal::Closed(place)
-            | MessageRefusal::Short(place)
+            MessageRefusal::Short(place)
             | MessageRefusal::NoFarm(place)
             | MessageRefusal::OldNumber(place)
             | MessageRefusal::ManyLines(place)

@@ -1,8 +1,6 @@
 // Why a message is refused, each with the place in the message where the fault lies.
 #[derive(Clone, Copy, PartialEq, Eq, Debug)]
 pub enum MessageRefusal {
-    // The sale is closed; only the sale says so, and no reading of the message.
-    Closed(usize),
     // Fewer than six bytes; the place is the length.
     Short(usize),
     // There is no such farm.

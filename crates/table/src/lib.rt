@@ -1,4 +1,6 @@
 // The table of best worths: for each farm, and for each bundle, the most that the sheets from that farm on and the reserve make of it.
+#![tactic(auto)]
+
 mod filling;
 mod offers;
 mod refusals;

@@ -1,5 +1,7 @@
 // The rule of Vickrey, Clarke and Groves over any bidders' alternatives, whatever the seller holds unsold units to be worth:
 // definitions, and theorems about them.
+#![tactic(auto)]
+
 ghost use Rattle.vcg.specs.Best.{OneChoice};
 ghost use Rattle.vcg.specs.Certificates.{TableProof};
 ghost use Rattle.vcg.specs.Charges.{ChargeLaw, ChargeAtMost, ChargeAtLeast, NothingForNothing};

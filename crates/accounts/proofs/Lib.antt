@@ -1,4 +1,0 @@
-pub mod Closings
-pub mod Payments
-pub mod Truths
-pub mod Walks
