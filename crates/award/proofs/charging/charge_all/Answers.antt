@@ -24,26 +24,26 @@ bounds-charges-farm c =
     let a = auction_of c.args.supply.now c.args.reserve.now c.args.sheets.now in
     omega (arith, c.loop-farm.auto.charges, ap length c.requires.without, length-map-range_with_len (worth_without a) 0 (length c.args.sheets.now))
 
-pub overflow-add-charge : goal.overflow-add-charge
-overflow-add-charge c =
+pub overflow_add-charge : goal.overflow_add-charge
+overflow_add-charge c =
     let a = auction_of c.args.supply.now c.args.reserve.now c.args.sheets.now in
     omega (
       arith,
       halfway_at (worth_without a) (charge_at a) c.loop-farm.charges c.loop-farm.farm (length c.args.sheets.now) c.loop-farm-test.true c.loop-farm.invariant,
       without-small c.args.supply.now c.args.reserve.now c.args.sheets.now c.loop-farm.farm c.requires.few,
-      c.chosen-line-stated.result.small,
+      c.chosen_line-stated.result.small,
     )
 
-pub overflow-sub-charge : goal.overflow-sub-charge
-overflow-sub-charge c =
+pub overflow_sub-charge : goal.overflow_sub-charge
+overflow_sub-charge c =
     let a = auction_of c.args.supply.now c.args.reserve.now c.args.sheets.now in
     let k = c.loop-farm.farm in
     omega (
       arith,
       c.requires.best,
       halfway_at (worth_without a) (charge_at a) c.loop-farm.charges k (length c.args.sheets.now) c.loop-farm-test.true c.loop-farm.invariant,
-      stated-is c.args.sheets.now c.args.award.now (best_choice a) k c.index-sheets-farm.result c.chosen-line-stated.result c.loop-farm-test.true c.index-sheets-farm.is
-          c.requires.chosen c.chosen-line-stated.ensures,
+      stated-is c.args.sheets.now c.args.award.now (best_choice a) k c.index-sheets-farm.result c.chosen_line-stated.result c.loop-farm-test.true c.index-sheets-farm.is
+          c.requires.chosen c.chosen_line-stated.ensures,
       charge_room a k (omega (arith, length-map c.args.sheets.now bids_of)) (reserve_grows a.supply (prices_of c.args.reserve.now) a.bidders),
     )
 
@@ -59,6 +59,6 @@ loop-farm-preserved c =
     let k = c.loop-farm.farm in
     let n = length c.args.sheets.now in
     let here = halfway_at (worth_without a) (charge_at a) c.loop-farm.charges k n c.loop-farm-test.true c.loop-farm.invariant in
-    let stated = stated-is c.args.sheets.now c.args.award.now (best_choice a) k c.index-sheets-farm.result c.chosen-line-stated.result c.loop-farm-test.true
-    c.index-sheets-farm.is c.requires.chosen c.chosen-line-stated.ensures in
+    let stated = stated-is c.args.sheets.now c.args.award.now (best_choice a) k c.index-sheets-farm.result c.chosen_line-stated.result c.loop-farm-test.true
+    c.index-sheets-farm.is c.requires.chosen c.chosen_line-stated.ensures in
     halfway_more (worth_without a) (charge_at a) c.loop-farm.charges k n c.loop-farm-test.true c.loop-farm.invariant _ (λ i. (here i + stated i) - c.requires.best i)

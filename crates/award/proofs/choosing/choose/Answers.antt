@@ -8,8 +8,8 @@ use Rattle.table.specs.Tables.{entry}
 use Rattle.vcg.specs.Optimum.{first_among, pick}
 use Rattle.award.proofs.choosing.choose.Goals as goal
 
-pub offset-bounds-below-place : goal.offset-bounds-below-place
-offset-bounds-below-place c =
+pub offset_bounds-below-place : goal.offset_bounds-below-place
+offset_bounds-below-place c =
     let s = c.args.supply.now in
     let x = units_of c.args.x.now in
     omega (arith, c.place.ensures, s.counted, s.small, place_below (supply_of s) x (within-true x (supply_of s) c.requires.held))
@@ -31,6 +31,6 @@ unfolding pick
 returns c =
     let rest = entry (supply_of c.args.supply.now) c.args.below.now in
     let x = units_of c.args.x.now in
-    c.first-line.ensures
+    c.first_line.ensures
     ∙ ap (λ (b : Bids). first_among rest x c.args.target b 1) c.lines.ensures
     ∙ sym (cond-false _ _ _ (ne_eqb (rest x) c.args.target (λ e. c.if-below-place.false (ap (λ n. get_or c.args.below.now n 0) c.place.ensures ∙ e))))

@@ -26,15 +26,15 @@ loop-farm-init c =
       ap (award (priced (prices_of c.args.reserve.now)) (map bids_of c.args.sheets.now)) c.units-x.ensures,
     )
 
-pub overflow-add-target : goal.overflow-add-target
-overflow-add-target c =
+pub overflow_add-target : goal.overflow_add-target
+overflow_add-target c =
     let s = supply_of c.args.supply.now in
     let x = units_of c.loop-farm.x in
     let below = place_below s x (within-true x s c.loop-farm.invariant.1) in
     omega (arith, entry-small c.args.supply.now c.loop-farm.farm c.bundles-row.result c.place.result (omega (arith, c.requires.few)) c.bundles-row.ensures (omega (arith, c.place.ensures)))
 
-pub offset-bounds-table-farm : goal.offset-bounds-table-farm
-offset-bounds-table-farm c =
+pub offset_bounds-table-farm : goal.offset_bounds-table-farm
+offset_bounds-table-farm c =
     let s = supply_of c.args.supply.now in
     let x = units_of c.loop-farm.x in
     let below = place_below s x (within-true x s c.loop-farm.invariant.1) in
@@ -69,7 +69,7 @@ choose-number-requires c =
     let rest = drop (length (rows s keep bs)) t in
     let long : (n + 1) * bundles s ≤ length t = omega (arith, table-long s keep bs t rest (sym c.requires.filled), ap (λ j. (j + 1) * bundles s) (length-map sheets bids_of)) in
     let low : (y : List ℕ) → length y ≡ length s → Within y s → keep y ≤ 2 ^ 32 = λ y _ held. priced_cap c.args.reserve.now c.args.supply.now y held in
-    let lent = lent_below t c.row-below-below.result.now n (bundles s) k c.loop-farm-test.true c.requires.few long c.row-below-below.ensures in
+    let lent = lent_below t c.row_below-below.result.now n (bundles s) k c.loop-farm-test.true c.requires.few long c.row_below-below.ensures in
     let after = drop ((k + 1) * bundles s) t in
     let rows-there : after ≡ rows s keep (drop (k + 1) bs) ++ rest = ap (drop ((k + 1) * bundles s)) (sym c.requires.filled) ∙ drop-rows s keep bs (k + 1) rest (omega (arith, length-map sheets bids_of)) in
     let wide : bundles s ≤ length after = omega (arith, length-drop ((k + 1) * bundles s) t, mul-le (k + 2) (bundles s) (n + 1) (bundles s) (omega arith) (omega arith), add-mul k 2 (bundles s), add-mul k 1 (bundles s)) in
@@ -101,13 +101,13 @@ loop-farm-preserved c =
     let rest = drop (length (rows s keep bs)) t in
     let many = length-map sheets bids_of in
     let long : (n + 1) * bundles s ≤ length t = omega (arith, table-long s keep bs t rest (sym c.requires.filled), ap (λ j. (j + 1) * bundles s) many) in
-    let lent = lent_below t c.row-below-below.result.now n (bundles s) k c.loop-farm-test.true c.requires.few long c.row-below-below.ensures in
+    let lent = lent_below t c.row_below-below.result.now n (bundles s) k c.loop-farm-test.true c.requires.few long c.row_below-below.ensures in
     let held = within-true x s c.loop-farm.invariant.1 in
-    let like : (y : List ℕ) → length y ≡ length s → Within y s → entry s c.row-below-below.result.now y ≡ optimum keep (drop (k + 1) bs) y =
+    let like : (y : List ℕ) → length y ≡ length s → Within y s → entry s c.row_below-below.result.now y ≡ optimum keep (drop (k + 1) bs) y =
     λ y l h. ap (λ r. entry s r y) lent ∙ below_is s keep bs t rest (sym c.requires.filled) (k + 1) (omega (arith, many)) y l h in
     let target = ap (λ j. get_or t (k * c.bundles-row.result + j) 0) c.place.ensures ∙ target_is s keep bs t rest (sym c.requires.filled) k c.bundles-row.result x c.bundles-row.ensures (omega (arith, many)) c.loop-farm.invariant.0 held in
-    let left : units_of c.minus-x.result ≡ less x (chosen (bids_of sheet) c.choose-number.result).want = c.minus-x.ensures ∙ ap (λ (b : Bid). less x b.want) c.chosen-line.ensures in
-    let more = award_more s keep (entry s c.row-below-below.result.now) (bids_of sheet) (drop (k + 1) bs) (drop k bs) x c.choose-number.result _
+    let left : units_of c.minus-x.result ≡ less x (chosen (bids_of sheet) c.choose-number.result).want = c.minus-x.ensures ∙ ap (λ (b : Bid). less x b.want) c.chosen_line.ensures in
+    let more = award_more s keep (entry s c.row_below-below.result.now) (bids_of sheet) (drop (k + 1) bs) (drop k bs) x c.choose-number.result _
     (bids_from sheets k (k + 1) sheet refl c.loop-farm-test.true c.index-sheets-farm.is) c.loop-farm.invariant.0 held like target c.choose-number.ensures in (
       ap length left ∙ length-less x _ ∙ c.loop-farm.invariant.0,
       ap (λ y. within y s) left ∙ true-within _ s (within_trans _ x s (less-within x _) held),

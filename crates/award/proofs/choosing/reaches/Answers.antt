@@ -4,8 +4,8 @@ use Rattle.bundle.specs.Stocks.{supply_of}
 use Rattle.award.proofs.Picks.{left_below}
 use Rattle.award.proofs.choosing.reaches.Goals as goal
 
-pub offset-bounds-below-place : goal.offset-bounds-below-place
-offset-bounds-below-place c =
+pub offset_bounds-below-place : goal.offset_bounds-below-place
+offset_bounds-below-place c =
     let s = c.args.supply.now in
     omega (
       arith,
@@ -25,8 +25,8 @@ bounds-below-place c =
       left_below (supply_of s) (units_of c.args.x.now) (units_of c.minus-left.result) (units_of c.args.line.now.units) c.requires.held c.minus-left.ensures,
     )
 
-pub overflow-add-result : goal.overflow-add-result
-overflow-add-result c =
+pub overflow_add-result : goal.overflow_add-result
+overflow_add-result c =
     let s = c.args.supply.now in
     omega (
       arith,

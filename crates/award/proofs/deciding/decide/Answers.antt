@@ -12,21 +12,21 @@ use Rattle.vcg.specs.Optimum.{worth_without, charge_at}
 use Rattle.award.proofs.Picks.{first_entry}
 use Rattle.award.proofs.deciding.decide.Goals as goal
 
-pub overflow-sub-worth : goal.overflow-sub-worth
-overflow-sub-worth c = omega (arith, c.bundles-row.ensures, bundles_pos (supply_of c.args.supply.now))
+pub overflow_sub-worth : goal.overflow_sub-worth
+overflow_sub-worth c = omega (arith, c.bundles-row.ensures, bundles_pos (supply_of c.args.supply.now))
 
 pub bounds-table-row : goal.bounds-table-row
 bounds-table-row c =
     let s = supply_of c.args.supply.now in
     let n = length c.args.sheets.now in
     let m = c.bundles-row.result in
-    omega (arith, bundles_pos s, c.bundles-row.ensures, c.fill-with-marginals.auto.table, add-mul n 1 m)
+    omega (arith, bundles_pos s, c.bundles-row.ensures, c.fill_with_marginals.auto.table, add-mul n 1 m)
 
-pub choose-all-requires : goal.choose-all-requires
-choose-all-requires c =
+pub choose_all-requires : goal.choose_all-requires
+choose_all-requires c =
     let a = auction_of c.args.supply.now c.args.reserve.now c.args.sheets.now in
     let t = c.args.table.now in
-    let u = c.fill-with-marginals.new.table in
+    let u = c.fill_with_marginals.new.table in
     let filled : u ≡ onto (table_of a) t = c.in-Ok.ensures.filled in
     record {
       few = omega arith;
@@ -34,13 +34,13 @@ choose-all-requires c =
       room = c.if-award-farms.false;
     }
 
-pub charge-all-requires : goal.charge-all-requires
-charge-all-requires c =
+pub charge_all-requires : goal.charge_all-requires
+charge_all-requires c =
     let a = auction_of c.args.supply.now c.args.reserve.now c.args.sheets.now in
     record {
       few = omega arith;
-      chosen = c.choose-all.ensures;
-      best = first_entry a c.args.table.now c.fill-with-marginals.new.table c.bundles-row.result c.bundles-row.ensures c.in-Ok.ensures.filled;
+      chosen = c.choose_all.ensures;
+      best = first_entry a c.args.table.now c.fill_with_marginals.new.table c.bundles-row.result c.bundles-row.ensures c.in-Ok.ensures.filled;
       without = c.in-Ok.ensures.without;
     }
 
@@ -53,16 +53,16 @@ returns c =
     let m = c.bundles-row.result in
     let a = auction_of c.args.supply.now c.args.reserve.now sheets in
     let long : (n + 1) * bundles s ≤ length t = omega (arith, ap (λ k. (n + 1) * k) c.bundles-row.ensures) in
-    let each : length c.args.charges.now ≡ n = sym c.fill-with-marginals.auto.without ∙ ap length c.in-Ok.ensures.without ∙ length-map-range_with_len (worth_without a) 0 n in
+    let each : length c.args.charges.now ≡ n = sym c.fill_with_marginals.auto.without ∙ ap length c.in-Ok.ensures.without ∙ length-map-range_with_len (worth_without a) 0 n in
     record {
       answer =
-          ap Ok (first_entry a t c.fill-with-marginals.new.table m c.bundles-row.ensures c.in-Ok.ensures.filled)
+          ap Ok (first_entry a t c.fill_with_marginals.new.table m c.bundles-row.ensures c.in-Ok.ensures.filled)
           ∙ sym
           (cond-false _ _ _ (le-ltb 48 n (omega arith))
           ∙ cond-false _ _ _ (le-ltb (length t) ((n + 1) * bundles s) long)
           ∙ cond-true _ _ _ (eq-eqb (length c.args.award.now) n c.if-award-farms.false)
           ∙ cond-true _ _ _ (eq-eqb (length c.args.charges.now) n each));
       table = c.in-Ok.ensures.filled;
-      award = c.choose-all.ensures;
-      charges = c.charge-all.ensures ∙ ap (λ k. map (charge_at a) (range_with_len 0 k)) (sym (length-map sheets bids_of));
+      award = c.choose_all.ensures;
+      charges = c.charge_all.ensures ∙ ap (λ k. map (charge_at a) (range_with_len 0 k)) (sym (length-map sheets bids_of));
     }

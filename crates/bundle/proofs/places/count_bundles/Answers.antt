@@ -16,8 +16,8 @@ returns-then-count-eq0 c =
     ∙ unsold_here (units_of b) i c.loop-lot.total (omega (arith, length_units b))
     (⊎_elim (λ e. inl (is ∙ e)) (λ h. inr (inl (omega (arith, is, h.1)))) c.then-count-eq0.either)
 
-pub returns-then-total-gt-MAX-BUNDLES : goal.returns-then-total-gt-MAX-BUNDLES
-returns-then-total-gt-MAX-BUNDLES c =
+pub returns-then-total-gt-MAX_BUNDLES : goal.returns-then-total-gt-MAX_BUNDLES
+returns-then-total-gt-MAX_BUNDLES c =
     let b = c.args.units.now in
     let i = c.loop-lot.lot in
     let n = c.loop-lot.total in

@@ -5,8 +5,8 @@ use Rattle.sale.specs.Opening.{units_of_lots, lots_checked}
 use Rattle.sale.specs.declared.lots.Lot.{Lot}
 use Rattle.sale.proofs.opening.check_supply.Goals as goal
 
-pub returns-then-lots-gt-MAX-LOTS : goal.returns-then-lots-gt-MAX-LOTS
-returns-then-lots-gt-MAX-LOTS c =
+pub returns-then-lots-gt-MAX_LOTS : goal.returns-then-lots-gt-MAX_LOTS
+returns-then-lots-gt-MAX_LOTS c =
     let ls = c.args.lots.now in
     record {
       value = sym (ap lots_checked (lots_wrong (units_of_lots ls) (inr (omega (arith, length-map ls (λ (l : Lot). l.units))))));

@@ -4,8 +4,8 @@ use Rattle.session.specs.Session.{opening_size}
 use Rattle.session.proofs.Framing.{messages_end, length-messages}
 use Rattle.session.proofs.running.message_count.Goals as goal
 
-pub overflow-add-count : goal.overflow-add-count
-overflow-add-count c =
+pub overflow_add-count : goal.overflow_add-count
+overflow_add-count c =
     let bs = c.args.file.now in
     omega (arith, c.loop-at.invariant, length-messages (drop (opening_size bs) bs), length-drop (opening_size bs) bs)
 

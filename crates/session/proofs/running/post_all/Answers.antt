@@ -10,13 +10,13 @@ use Rattle.session.proofs.running.post_all.Goals as goal
 pub loop-at-preserved : goal.loop-at-preserved
 loop-at-preserved c =
     let bs = c.args.file.now in
-    let f = c.frame-at-from.result in
+    let f = c.frame_at-from.result in
     let h = state_of c.loop-at.sale in
     let k = state_of c.post-answer.result.0 in
     let m = take (f.to - f.from) (drop f.from bs) in
     let ms = messages (drop c.loop-at.at bs) in
     let rest = messages (drop f.to bs) in
-    let here = c.frame-at-from.ensures.first in
+    let here = c.frame_at-from.ensures.first in
     let long = ap length here in (
       omega (arith, c.loop-at.invariant.0, long),
       after_more h k m ms rest here c.post-answer.ensures.state ∙ c.loop-at.invariant.1,

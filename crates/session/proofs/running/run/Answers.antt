@@ -15,9 +15,9 @@ returns-in-Ok c =
     let room : ltb (length row) (length ms) ≡ false = le-ltb (length row) (length ms) (omega arith) in
     let is : run bs ≡ Ok (record { state = after h ms; told = replies h ms }) = then_ok (opening_in bs) _ h (sym c.in-Ok.ensures) in
     record {
-      value = ap (λ g. Ok g) c.post-all.ensures.state ∙ sym (cond-false _ _ _ room ∙ ap ran is);
+      value = ap (λ g. Ok g) c.post_all.ensures.state ∙ sym (cond-false _ _ _ room ∙ ap ran is);
       told =
-          c.post-all.ensures.told
+          c.post_all.ensures.told
           ∙ ap (λ n. replies h ms ++ drop n row) (sym (length-answers h.supply h.entries ms))
           ∙ sym (cond-false _ _ _ room ∙ ap (λ r. noted r row) is);
     }

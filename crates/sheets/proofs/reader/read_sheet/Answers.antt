@@ -6,8 +6,8 @@ use Rattle.sheets.specs.Sheets.{bid_of, bids_of}
 use Rattle.sheets.proofs.Walks.{behind, lines_stop, lines_go, lines_end, bids_more, row_fits, next_row}
 use Rattle.sheets.proofs.reader.read_sheet.Goals as goal
 
-pub read-line-requires : goal.read-line-requires
-read-line-requires c =
+pub read_line-requires : goal.read_line-requires
+read_line-requires c =
     omega (arith, row_fits c.loop-k.k c.args.count c.args.size (length c.args.bytes.now) (omega arith) (omega arith))
 
 pub returns-in-err-line : goal.returns-in-err-line
@@ -18,8 +18,8 @@ returns-in-err-line c =
     c.in-err-line.field-0.0 (omega arith) c.in-err-line.ensures)
     ∙ c.loop-k.invariant.2)
 
-pub overflow-add-at : goal.overflow-add-at
-overflow-add-at c = omega (arith, row_fits c.loop-k.k c.args.count c.args.size (length c.args.bytes.now) (omega arith) (omega arith))
+pub overflow_add-at : goal.overflow_add-at
+overflow_add-at c = omega (arith, row_fits c.loop-k.k c.args.count c.args.size (length c.args.bytes.now) (omega arith) (omega arith))
 
 pub loop-k-preserved : goal.loop-k-preserved
 loop-k-preserved c =

@@ -16,9 +16,9 @@ loop-lot-init c =
       behind_none (units_in ss c.args.bytes.now (c.args.at + 0)) ∙ ap (units_in ss c.args.bytes.now) start,
     )
 
-pub returns-in-default : goal.returns-in-default
-returns-in-default c =
-    sym (units_stop (supply_of c.args.supply.now) c.args.bytes.now (units_of c.loop-lot.units) c.args.at c.loop-lot.lot (omega (arith, ap length c.units.ensures)) c.in-default.ensures)
+pub returns-in_default : goal.returns-in_default
+returns-in_default c =
+    sym (units_stop (supply_of c.args.supply.now) c.args.bytes.now (units_of c.loop-lot.units) c.args.at c.loop-lot.lot (omega (arith, ap length c.units.ensures)) c.in_default.ensures)
     ∙ c.loop-lot.invariant.1
 
 pub loop-lot-preserved : goal.loop-lot-preserved
@@ -27,8 +27,8 @@ loop-lot-preserved c =
     let us = units_of c.loop-lot.units in
     let i = c.loop-lot.lot in
     let e = c.in-Some.ensures in (
-      ap length c.with-count-units.ensures ∙ simp length-set c.loop-lot.invariant.0,
-      ap (λ l. behind (take (i + 1) l) (units_in (drop (i + 1) ss) c.args.bytes.now (c.args.at + (i + 1)))) c.with-count-units.ensures
+      ap length c.with_count-units.ensures ∙ simp length-set c.loop-lot.invariant.0,
+      ap (λ l. behind (take (i + 1) l) (units_in (drop (i + 1) ss) c.args.bytes.now (c.args.at + (i + 1)))) c.with_count-units.ensures
           ∙ units_go ss c.args.bytes.now us c.args.at i c.in-Some.count (omega (arith, ap length c.units.ensures)) (omega (arith, ap length c.units.ensures)) e.1 e.0
           ∙ c.loop-lot.invariant.1,
     )

@@ -9,8 +9,8 @@ returns c =
     let line = c.args.line.now in
     let units = units_of line.units in
     let from = c.args.at + 4 in
-    put-over from (from + length c.units-units.result.now) c.put-number.new.out c.copy-from-slice.new.self units
-    (c.copy-from-slice.ensures.after ∙ c.units-units.ensures)
+    put-over from (from + length c.units-units.result.now) c.put_number.new.out c.copy_from_slice.new.self units
+    (c.copy_from_slice.ensures.after ∙ c.units-units.ensures)
     (omega (arith, ap length c.units-units.ensures))
-    ∙ ap (over from units) c.put-number.ensures
+    ∙ ap (over from units) c.put_number.ensures
     ∙ over-over c.args.at from (u32_bytes line.worth) units c.args.out.now refl (omega arith)

@@ -5,4 +5,4 @@ use Rattle.sheets.proofs.writer.put_number.Goals as goal
 
 pub returns : goal.returns
 returns c =
-    put-over c.args.at (c.args.at + 4) c.args.out.now c.copy-from-slice.new.self (u32_bytes c.args.n) (c.copy-from-slice.ensures.after ∙ c.to-le-bytes.ensures) (omega arith)
+    put-over c.args.at (c.args.at + 4) c.args.out.now c.copy_from_slice.new.self (u32_bytes c.args.n) (c.copy_from_slice.ensures.after ∙ c.to_le_bytes.ensures) (omega arith)

@@ -3,11 +3,11 @@ use Rattle.sheets.specs.Sheets.{bids_of}
 use Rattle.sheets.proofs.Over.{few_units, length-next}
 use Rattle.sheets.proofs.writer.size_of.Goals as goal
 
-pub overflow-add-size : goal.overflow-add-size
-overflow-add-size c = omega (arith, few_units (get_or c.args.message.now.sheet.lines c.loop-k.k c.index-sheet-k.result).units)
+pub overflow_add-size : goal.overflow_add-size
+overflow_add-size c = omega (arith, few_units (get_or c.args.message.now.sheet.lines c.loop-k.k c.index-sheet-k.result).units)
 
-pub overflow-add-size-in-loop-k : goal.overflow-add-size-in-loop-k
-overflow-add-size-in-loop-k c = omega (arith, few_units (get_or c.args.message.now.sheet.lines c.loop-k.k c.index-sheet-k.result).units)
+pub overflow_add-size-in-loop-k : goal.overflow_add-size-in-loop-k
+overflow_add-size-in-loop-k c = omega (arith, few_units (get_or c.args.message.now.sheet.lines c.loop-k.k c.index-sheet-k.result).units)
 
 pub loop-k-preserved : goal.loop-k-preserved
 loop-k-preserved c =

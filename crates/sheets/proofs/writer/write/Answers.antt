@@ -12,13 +12,13 @@ returns c =
     let xs = c.args.out.now in
     let js = flat_map line_bytes (bids_of m.sheet) in
     let bs = message_bytes (submission_of m) in
-    let room : ltb (length xs) (length bs) ≡ false = le-ltb (length xs) (length bs) (omega (arith, c.size-of-size.ensures.value)) in
+    let room : ltb (length xs) (length bs) ≡ false = le-ltb (length xs) (length bs) (omega (arith, c.size_of-size.ensures.value)) in
     record {
-      value = ap (λ n. Some n) c.size-of-size.ensures.value ∙ sym (cond-false _ _ _ room);
+      value = ap (λ n. Some n) c.size_of-size.ensures.value ∙ sym (cond-false _ _ _ room);
       after =
-          c.put-lines.ensures
-          ∙ ap (λ l. over 6 js (set l 5 m.sheet.count)) c.put-number.ensures
-          ∙ head_over m.farm m.number m.sheet.count js xs (omega (arith, c.size-of-size.ensures.value))
+          c.put_lines.ensures
+          ∙ ap (λ l. over 6 js (set l 5 m.sheet.count)) c.put_number.ensures
+          ∙ head_over m.farm m.number m.sheet.count js xs (omega (arith, c.size_of-size.ensures.value))
           ∙ ap (λ n. over 0 (m.farm ∷ (u32_bytes m.number ++ (n ∷ js))) xs) (sym (length-bids m.sheet))
           ∙ sym (cond-false _ _ _ room);
     }

@@ -11,21 +11,21 @@ use Rattle.table.proofs.Layers.{filled-rows, room_enough, small_row}
 use Rattle.table.proofs.TableRows.{rows-onto}
 use Rattle.table.proofs.filling.fill.Goals as goal
 
-pub keep-last-requires : goal.keep-last-requires
-keep-last-requires c =
+pub keep_last-requires : goal.keep_last-requires
+keep_last-requires c =
     let n = length c.args.sheets.now in
     record { few = omega arith; long = omega (arith, ap (λ k. (n + 1) * k) c.bundles.ensures) }
 
-pub fill-rows-requires : goal.fill-rows-requires
-fill-rows-requires c =
+pub fill_rows-requires : goal.fill_rows-requires
+fill_rows-requires c =
     let s = supply_of c.args.supply.now in
     let n = length c.args.sheets.now in
     let t = c.args.table.now in
     let keep = priced (prices_of c.args.reserve.now) in
     record {
       few = omega arith;
-      long = omega (arith, ap (λ k. (n + 1) * k) c.bundles.ensures, c.keep-last.auto.table);
-      small = small_row s keep c.keep-last.new.table (from_row s (n + 1) t) n c.keep-last.ensures
+      long = omega (arith, ap (λ k. (n + 1) * k) c.bundles.ensures, c.keep_last.auto.table);
+      small = small_row s keep c.keep_last.new.table (from_row s (n + 1) t) n c.keep_last.ensures
           (λ p h. omega (arith, priced_cap c.args.reserve.now c.args.supply.now (bundle_at s p) (bundle_at-within s p)));
     }
 
@@ -40,5 +40,5 @@ returns c =
     let long : (n + 1) * bundles s ≤ length t = omega (arith, ap (λ k. (n + 1) * k) c.bundles.ensures) in
     record {
       answer = sym (room_enough n (bundles s) (length t) (omega arith) long);
-      filled = filled-rows s keep bs n (from_row s (n + 1) t) c.keep-last.new.table c.fill-rows.new.table count c.keep-last.ensures c.fill-rows.ensures ∙ rows-onto s keep bs n t count;
+      filled = filled-rows s keep bs n (from_row s (n + 1) t) c.keep_last.new.table c.fill_rows.new.table count c.keep_last.ensures c.fill_rows.ensures ∙ rows-onto s keep bs n t count;
     }

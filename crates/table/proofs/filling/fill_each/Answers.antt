@@ -28,8 +28,8 @@ loop-farm-init c =
           ∙ ap (λ k. map (worth_without (auction_of c.args.supply.now c.args.reserve.now sheets)) (range_with_len n k)) (sym over),
     )
 
-pub worth-without-farm-requires : goal.worth-without-farm-requires
-worth-without-farm-requires c =
+pub worth_without_farm-requires : goal.worth_without_farm-requires
+worth_without_farm-requires c =
     let s = supply_of c.args.supply.now in
     let n = length c.args.sheets.now in
     let t = c.loop-farm.table in
@@ -56,20 +56,20 @@ worth-without-farm-requires c =
       );
     }
 
-pub slice-bounds-fill-row-count : goal.slice-bounds-fill-row-count
-slice-bounds-fill-row-count c =
+pub slice_bounds-fill_row-count : goal.slice_bounds-fill_row-count
+slice_bounds-fill_row-count c =
     let s = supply_of c.args.supply.now in
     omega (
       arith,
-      row_fits c.bundles-row.result (bundles s) c.bundles-row.ensures (c.loop-farm.farm - 1) (length c.args.sheets.now) (length c.worth-without-farm.new.table)
-          (omega (arith, c.loop-farm.invariant.0)) (omega (arith, c.requires.long, c.loop-farm.auto.table, c.worth-without-farm.auto.table)),
+      row_fits c.bundles-row.result (bundles s) c.bundles-row.ensures (c.loop-farm.farm - 1) (length c.args.sheets.now) (length c.worth_without_farm.new.table)
+          (omega (arith, c.loop-farm.invariant.0)) (omega (arith, c.requires.long, c.loop-farm.auto.table, c.worth_without_farm.auto.table)),
     )
 
-pub slice-bounds-fill-row-start : goal.slice-bounds-fill-row-start
-slice-bounds-fill-row-start c = slice-bounds-fill-row-count c
+pub slice_bounds-fill_row-start : goal.slice_bounds-fill_row-start
+slice_bounds-fill_row-start c = slice_bounds-fill_row-count c
 
-pub fill-row-requires : goal.fill-row-requires
-fill-row-requires c =
+pub fill_row-requires : goal.fill_row-requires
+fill_row-requires c =
     let s = supply_of c.args.supply.now in
     let n = length c.args.sheets.now in
     let k = c.loop-farm.farm - 1 in
@@ -77,11 +77,11 @@ fill-row-requires c =
     let keep = priced (prices_of c.args.reserve.now) in
     let farm : k + 1 ≡ c.loop-farm.farm = omega arith in
     let low : (y : List ℕ) → length y ≡ length s → Within y s → keep y ≤ 2 ^ 40 = λ y _ held. omega (arith, priced_cap c.args.reserve.now c.args.supply.now y held) in
-    let later : drop (c.loop-farm.farm * bundles s) c.worth-without-farm.new.table ≡ drop (c.loop-farm.farm * bundles s) t =
-    ap (λ j. drop (j * bundles s) c.worth-without-farm.new.table) (sym farm) ∙ c.worth-without-farm.ensures.after ∙ ap (λ j. drop (j * bundles s) t) farm in
+    let later : drop (c.loop-farm.farm * bundles s) c.worth_without_farm.new.table ≡ drop (c.loop-farm.farm * bundles s) t =
+    ap (λ j. drop (j * bundles s) c.worth_without_farm.new.table) (sym farm) ∙ c.worth_without_farm.ensures.after ∙ ap (λ j. drop (j * bundles s) t) farm in
     record {
-      roomy = roomy_part s c.bundles-row.result c.bundles-row.ensures keep low c.args.sheets.now c.requires.few c.worth-without-farm.new.table
-          (drop ((n + 1) * bundles s) c.args.table.now) (omega (arith, c.requires.long, c.loop-farm.auto.table, c.worth-without-farm.auto.table)) k c.loop-farm.farm (omega arith)
+      roomy = roomy_part s c.bundles-row.result c.bundles-row.ensures keep low c.args.sheets.now c.requires.few c.worth_without_farm.new.table
+          (drop ((n + 1) * bundles s) c.args.table.now) (omega (arith, c.requires.long, c.loop-farm.auto.table, c.worth_without_farm.auto.table)) k c.loop-farm.farm (omega arith)
           c.loop-farm.invariant.0 (later ∙ c.loop-farm.invariant.1);
     }
 
@@ -92,27 +92,27 @@ loop-farm-preserved c =
     let n = length sheets in
     let k = c.loop-farm.farm - 1 in
     let t = c.loop-farm.table in
-    let u = c.worth-without-farm.new.table in
+    let u = c.worth_without_farm.new.table in
     let m = c.bundles-row.result in
     let keep = priced (prices_of c.args.reserve.now) in
     let bs = map bids_of sheets in
     let rest = drop ((n + 1) * bundles s) c.args.table.now in
     let farm : k + 1 ≡ c.loop-farm.farm = omega arith in
     let later : drop (c.loop-farm.farm * bundles s) u ≡ drop (c.loop-farm.farm * bundles s) t =
-    ap (λ j. drop (j * bundles s) u) (sym farm) ∙ c.worth-without-farm.ensures.after ∙ ap (λ j. drop (j * bundles s) t) farm in
+    ap (λ j. drop (j * bundles s) u) (sym farm) ∙ c.worth_without_farm.ensures.after ∙ ap (λ j. drop (j * bundles s) t) farm in
     let below = below_part m (bundles s) c.bundles-row.ensures u k c.loop-farm.farm (omega arith) ∙ later ∙ c.loop-farm.invariant.1 in
     let part = take (length u - k * m) (drop (k * m) u) in
     let sheet = c.index-sheets-farm.result in
     let more = bids_from sheets k c.loop-farm.farm sheet (omega arith) (omega (arith, c.loop-farm.invariant.0)) c.index-sheets-farm.is in
-    let wide : length u ≡ length c.args.table.now = omega (arith, c.loop-farm.auto.table, c.worth-without-farm.auto.table) in
-    let value = c.worth-without-farm.ensures.value ∙ without_is s keep bs k t rest (omega (arith, c.loop-farm.invariant.0, length-map sheets bids_of))
+    let wide : length u ≡ length c.args.table.now = omega (arith, c.loop-farm.auto.table, c.worth_without_farm.auto.table) in
+    let value = c.worth_without_farm.ensures.value ∙ without_is s keep bs k t rest (omega (arith, c.loop-farm.invariant.0, length-map sheets bids_of))
     (ap (λ j. drop (j * bundles s) t) farm ∙ c.loop-farm.invariant.1 ∙ ap (λ j. rows s keep (drop j bs) ++ rest) (sym farm)) in (
       omega (arith, c.loop-farm.invariant.0),
-      written_part m (bundles s) c.bundles-row.ensures u c.fill-row.new.rows k
+      written_part m (bundles s) c.bundles-row.ensures u c.fill_row.new.rows k
           (omega (arith, row_fits m (bundles s) c.bundles-row.ensures k n (length u) (omega (arith, c.loop-farm.invariant.0)) (omega (arith, c.requires.long))))
-          ∙ layer s keep (bids_of sheet) (drop c.loop-farm.farm bs) rest part c.fill-row.new.rows below c.fill-row.ensures
+          ∙ layer s keep (bids_of sheet) (drop c.loop-farm.farm bs) rest part c.fill_row.new.rows below c.fill_row.ensures
           ∙ ap (λ (ds : List Bids). rows s keep ds ++ rest) (sym more),
-      counted_more (worth_without (auction_of c.args.supply.now c.args.reserve.now sheets)) c.loop-farm.without k c.loop-farm.farm n c.worth-without-farm.result (omega arith)
+      counted_more (worth_without (auction_of c.args.supply.now c.args.reserve.now sheets)) c.loop-farm.without k c.loop-farm.farm n c.worth_without_farm.result (omega arith)
           c.loop-farm.invariant.0 (omega (arith, c.loop-farm.invariant.0, c.requires.room, c.loop-farm.auto.without)) value c.loop-farm.invariant.2,
     )
 

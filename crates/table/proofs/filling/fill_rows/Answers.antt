@@ -24,8 +24,8 @@ loop-left-init c =
           ∙ ap (λ (bs : List Bids). rows s (entry s last) bs ++ drop ((n + 1) * bundles s) t) (sym none),
     )
 
-pub slice-bounds-fill-row-count : goal.slice-bounds-fill-row-count
-slice-bounds-fill-row-count c =
+pub slice_bounds-fill_row-count : goal.slice_bounds-fill_row-count
+slice_bounds-fill_row-count c =
     let s = supply_of c.args.supply.now in
     omega (
       arith,
@@ -33,11 +33,11 @@ slice-bounds-fill-row-count c =
           (omega (arith, c.loop-left.invariant.0)) (omega (arith, c.requires.long, c.loop-left.auto.table)),
     )
 
-pub slice-bounds-fill-row-start : goal.slice-bounds-fill-row-start
-slice-bounds-fill-row-start c = slice-bounds-fill-row-count c
+pub slice_bounds-fill_row-start : goal.slice_bounds-fill_row-start
+slice_bounds-fill_row-start c = slice_bounds-fill_row-count c
 
-pub fill-row-requires : goal.fill-row-requires
-fill-row-requires c =
+pub fill_row-requires : goal.fill_row-requires
+fill_row-requires c =
     let s = supply_of c.args.supply.now in
     let n = length c.args.sheets.now in
     let keep = entry s (drop (n * bundles s) c.args.table.now) in
@@ -62,9 +62,9 @@ loop-left-preserved c =
     let below = below_part m (bundles s) c.bundles-row.ensures t k c.loop-left.left (omega arith) ∙ c.loop-left.invariant.1 in
     let more = bids_from c.args.sheets.now k c.loop-left.left sheet (omega arith) (omega (arith, c.loop-left.invariant.0)) c.index-sheets-left.is in (
       omega (arith, c.loop-left.invariant.0),
-      written_part m (bundles s) c.bundles-row.ensures t c.fill-row.new.rows k
+      written_part m (bundles s) c.bundles-row.ensures t c.fill_row.new.rows k
           (omega (arith, row_fits m (bundles s) c.bundles-row.ensures k n (length t) (omega (arith, c.loop-left.invariant.0)) (omega (arith, c.requires.long, c.loop-left.auto.table))))
-          ∙ layer s keep (bids_of sheet) bs rest part c.fill-row.new.rows below c.fill-row.ensures
+          ∙ layer s keep (bids_of sheet) bs rest part c.fill_row.new.rows below c.fill_row.ensures
           ∙ ap (λ (ds : List Bids). rows s keep ds ++ rest) (sym more),
     )
 

@@ -12,21 +12,21 @@ use Rattle.table.proofs.Layers.{after-row, room_enough}
 use Rattle.table.proofs.TableRows.{rows-onto}
 use Rattle.table.proofs.filling.fill_with_marginals.Goals as goal
 
-pub keep-last-requires : goal.keep-last-requires
-keep-last-requires c =
+pub keep_last-requires : goal.keep_last-requires
+keep_last-requires c =
     let n = length c.args.sheets.now in
     record { few = omega arith; long = omega (arith, ap (λ k. (n + 1) * k) c.bundles.ensures) }
 
-pub fill-each-requires : goal.fill-each-requires
-fill-each-requires c =
+pub fill_each-requires : goal.fill_each-requires
+fill_each-requires c =
     let s = supply_of c.args.supply.now in
     let n = length c.args.sheets.now in
     let keep = priced (prices_of c.args.reserve.now) in
-    let last = c.keep-last.ensures in
+    let last = c.keep_last.ensures in
     record {
       few = omega arith;
-      long = omega (arith, ap (λ k. (n + 1) * k) c.bundles.ensures, c.keep-last.auto.table);
-      last = last ∙ ap (λ l. row s keep ++ l) (sym (after-row s keep c.keep-last.new.table (from_row s (n + 1) c.args.table.now) n last));
+      long = omega (arith, ap (λ k. (n + 1) * k) c.bundles.ensures, c.keep_last.auto.table);
+      last = last ∙ ap (λ l. row s keep ++ l) (sym (after-row s keep c.keep_last.new.table (from_row s (n + 1) c.args.table.now) n last));
       room = omega arith;
     }
 
@@ -41,9 +41,9 @@ returns c =
     let long : (n + 1) * bundles s ≤ length t = omega (arith, ap (λ k. (n + 1) * k) c.bundles.ensures) in
     record {
       answer = sym (then_ok (fill_answer n (bundles s) (length t)) _ tt (room_enough n (bundles s) (length t) (omega arith) long) ∙ cond-true _ _ _ (eq-eqb (length c.args.without.now) n c.if-without-farms.false));
-      filled = c.fill-each.ensures.filled
-          ∙ sym (rows-onto s keep bs n c.keep-last.new.table count)
-          ∙ ap (λ l. rows s keep bs ++ l) (after-row s keep c.keep-last.new.table (from_row s (n + 1) t) n c.keep-last.ensures)
+      filled = c.fill_each.ensures.filled
+          ∙ sym (rows-onto s keep bs n c.keep_last.new.table count)
+          ∙ ap (λ l. rows s keep bs ++ l) (after-row s keep c.keep_last.new.table (from_row s (n + 1) t) n c.keep_last.ensures)
           ∙ rows-onto s keep bs n t count;
-      without = c.fill-each.ensures.without;
+      without = c.fill_each.ensures.without;
     }

@@ -10,5 +10,5 @@ returns c =
     let s = supply_of c.args.supply.now in
     let n = c.args.farms in
     let t = c.args.table.now in
-    written_row s c.bundles.result c.bundles.ensures (priced (prices_of c.args.reserve.now)) t c.keep-row.new.rows n (n + 1) refl
-    (omega (arith, row_fits c.bundles.result (bundles s) c.bundles.ensures n n (length t) (omega arith) c.requires.long)) c.keep-row.ensures
+    written_row s c.bundles.result c.bundles.ensures (priced (prices_of c.args.reserve.now)) t c.keep_row.new.rows n (n + 1) refl
+    (omega (arith, row_fits c.bundles.result (bundles s) c.bundles.ensures n n (length t) (omega arith) c.requires.long)) c.keep_row.ensures

@@ -13,8 +13,8 @@ pub loop-k-init : goal.loop-k-init
 loop-k-init c =
     sweep_start (supply_of c.args.supply.now) c.args.rows.now c.bundles.result c.args.at c.bundles.ensures c.requires.below c.args.lines.now
 
-pub overflow-sub-at : goal.overflow-sub-at
-overflow-sub-at c =
+pub overflow_sub-at : goal.overflow_sub-at
+overflow_sub-at c =
     let s = supply_of c.args.supply.now in
     let line = c.index-lines-k.result in
     omega (
@@ -23,8 +23,8 @@ overflow-sub-at c =
       left_at s (units_of c.args.x.now) line.units c.args.at c.requires.below c.requires.stands c.if-fits.ensures,
     )
 
-pub overflow-add-line : goal.overflow-add-line
-overflow-add-line c =
+pub overflow_add-line : goal.overflow_add-line
+overflow_add-line c =
     let s = supply_of c.args.supply.now in
     let t = c.args.rows.now in
     let line = c.index-lines-k.result in

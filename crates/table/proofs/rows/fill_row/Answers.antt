@@ -11,17 +11,17 @@ use Rattle.table.proofs.Sweeps.{places_front}
 use Rattle.table.proofs.TableRows.{row_more, row_rest, row_whole}
 use Rattle.table.proofs.rows.fill_row.Goals as goal
 
-pub places-of-places-requires : goal.places-of-places-requires
-places-of-places-requires c = record { few = few_lines c.args.sheet.now c.lines-lines.result.now c.lines-lines.ensures }
+pub places_of-places-requires : goal.places_of-places-requires
+places_of-places-requires c = record { few = few_lines c.args.sheet.now c.lines-lines.result.now c.lines-lines.ensures }
 
-pub best-at-most-requires : goal.best-at-most-requires
-best-at-most-requires c =
+pub best_at-most-requires : goal.best_at-most-requires
+best_at-most-requires c =
     let s = supply_of c.args.supply.now in
     let below = made s (drop (bundles s) c.args.rows.now) (bids_of c.args.sheet.now) in
     let same = row_rest s below c.args.rows.now c.loop-p.rows c.loop-p.p c.loop-p.invariant.1 (bundles s) (omega (arith, c.bundles-p-end.ensures)) in
     record {
       few = few_lines c.args.sheet.now c.lines-lines.result.now c.lines-lines.ensures;
-      placed = places_front s c.lines-lines.result.now c.places-of-places.result _ c.places-of-places.ensures;
+      placed = places_front s c.lines-lines.result.now c.places_of-places.result _ c.places_of-places.ensures;
       roomy = record {
         long = omega (arith, c.requires.roomy.long, c.loop-p.auto.rows);
         small = λ p h. omega (
@@ -42,12 +42,12 @@ loop-p-preserved c =
     let xs = c.args.rows.now in
     let f = made s (drop (bundles s) xs) (bids_of c.args.sheet.now) in
     let same = row_rest s f xs c.loop-p.rows c.loop-p.p c.loop-p.invariant.1 (bundles s) (omega (arith, c.bundles-p-end.ensures)) in
-    let is : c.best-at-most.result ≡ f (bundle_at s c.loop-p.p) =
-    c.best-at-most.ensures
+    let is : c.best_at-most.result ≡ f (bundle_at s c.loop-p.p) =
+    c.best_at-most.ensures
     ∙ ap (λ l. made s l (map bid_of c.lines-lines.result.now) (bundle_at s c.loop-p.p)) same
     ∙ ap (λ (b : Bids). made s (drop (bundles s) xs) b (bundle_at s c.loop-p.p)) c.lines-lines.ensures in (
       c.next-x.ensures ∙ ap (next s) c.loop-p.invariant.0 ∙ next_place s c.loop-p.p,
-      row_more s f xs c.loop-p.rows c.loop-p.p c.loop-p.invariant.1 c.best-at-most.result (omega (arith, c.requires.roomy.long, c.bundles-p-end.ensures)) is,
+      row_more s f xs c.loop-p.rows c.loop-p.p c.loop-p.invariant.1 c.best_at-most.result (omega (arith, c.requires.roomy.long, c.bundles-p-end.ensures)) is,
     )
 
 pub returns : goal.returns

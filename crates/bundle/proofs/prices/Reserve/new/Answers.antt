@@ -5,11 +5,11 @@ use Rattle.bundle.specs.Reserves.{prices_of, priced_but}
 use Rattle.bundle.proofs.Supplies.{overpriced_here, overpriced_next, overpriced_none}
 use Rattle.bundle.proofs.prices.Reserve.new.Goals as goal
 
-pub returns-then-prices-lot-gt-MAX-PRICE : goal.returns-then-prices-lot-gt-MAX-PRICE
-returns-then-prices-lot-gt-MAX-PRICE c =
+pub returns-then-prices-lot-gt-MAX_PRICE : goal.returns-then-prices-lot-gt-MAX_PRICE
+returns-then-prices-lot-gt-MAX_PRICE c =
     let ps = c.args.prices.now in
     let i = c.loop-lot.lot in
-    ap (λ o. priced_but o ps) (sym (overpriced_here ps i (omega arith) (⊎_elim (λ g. inl g) (λ g. inr g.1) c.then-prices-lot-gt-MAX-PRICE.either)) ∙ c.loop-lot.invariant.2)
+    ap (λ o. priced_but o ps) (sym (overpriced_here ps i (omega arith) (⊎_elim (λ g. inl g) (λ g. inr g.1) c.then-prices-lot-gt-MAX_PRICE.either)) ∙ c.loop-lot.invariant.2)
 
 pub loop-lot-preserved : goal.loop-lot-preserved
 loop-lot-preserved c =

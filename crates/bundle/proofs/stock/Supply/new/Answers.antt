@@ -11,12 +11,12 @@ returns-then-units-eq0 c =
     let m = made_units (units_of u) c.args.units.now c.in-Some.ensures in
     sym (lots_wrong c.args.units.now (inl (omega (arith, ap length m.1, length_units u))))
 
-pub invariant-of-result : goal.invariant-of-result
-invariant-of-result c =
+pub invariant_of-result : goal.invariant_of-result
+invariant_of-result c =
     let u = c.in-Some.units in
     let e = c.in-Ok.ensures in
     let s = sold_if (units_of u) (omega (arith, length_units u)) (omega (arith, length_units u)) e.0 in
-    (s.some, (s.least, (s.most, (e.1, (omega (arith, s.small, e.1), tt)))))
+    record { some = s.some; least = s.least; most = s.most; counted = e.1; small = omega (arith, s.small, e.1) }
 
 pub returns-in-Err : goal.returns-in-Err
 returns-in-Err c =

@@ -11,6 +11,6 @@ returns c =
     let s = c.args.self.now in
     let x = c.args.x.now in
     let none : s.units.lots - s.units.lots ≡ 0 = omega arith in
-    c.place-of-last.ensures.is
+    c.place_of_last.ensures.is
     ∙ ap (λ n. place (drop n (supply_of s)) (drop n x.counts)) none
     ∙ place_like (supply_of s) x.counts (units_of x) (λ j. sym (get_or_units x j))

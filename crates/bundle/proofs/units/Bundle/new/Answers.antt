@@ -5,14 +5,14 @@ use Rattle.bundle.specs.Bundles.{units_of}
 use Rattle.bundle.proofs.Padding.{padded_copy}
 use Rattle.bundle.proofs.units.Bundle.new.Goals as goal
 
-pub invariant-of-result : goal.invariant-of-result
-invariant-of-result c =
-    let p = padded_copy c.copy-from-slice.new.self (length c.args.counts.now) (ap length c.copy-from-slice.ensures.after) (omega arith) in
-    (p.0, (p.1, (p.2, tt)))
+pub invariant_of-result : goal.invariant_of-result
+invariant_of-result c =
+    let p = padded_copy c.copy_from_slice.new.self (length c.args.counts.now) (ap length c.copy_from_slice.ensures.after) (omega arith) in
+    record { long = p.0; few = p.1; padded = p.2 }
 
 pub returns : goal.returns
 unfolding units_of
 returns c =
     let xs = c.args.counts.now in
-    ap (λ l. Some l) (take_at c.copy-from-slice.new.self _ (length xs) (ap length c.copy-from-slice.ensures.after) ∙ c.copy-from-slice.ensures.after)
+    ap (λ l. Some l) (take_at c.copy_from_slice.new.self _ (length xs) (ap length c.copy_from_slice.ensures.after) ∙ c.copy_from_slice.ensures.after)
     ∙ sym (cond-false _ _ _ (le-ltb 12 (length xs) (omega arith)))

@@ -7,13 +7,13 @@ use Rattle.bundle.proofs.units.Bundle.plus.Goals as goal
 over : (x y z : ℕ) → (z + y < 256 → ⊥) → z ≡ x → 255 < x + y
 over x y z n e = ⊎_elim (λ h. absurd (n (omega arith))) (λ h. omega arith) (cases_lt (x + y) 256)
 
-pub returns-in-default : goal.returns-in-default
-returns-in-default c =
+pub returns-in_default : goal.returns-in_default
+returns-in_default c =
     let a = c.args.self.now in
     let b = c.args.other.now in
     let i = c.loop-lot.lot in
     sym (cond-false _ _ _ (sum_too_large a b i
-    (over (get_or a.counts i 0) (get_or b.counts i 0) (get_or c.loop-lot.counts i 0) c.in-default.ensures (c.loop-lot.invariant.2 i (omega arith)))))
+    (over (get_or a.counts i 0) (get_or b.counts i 0) (get_or c.loop-lot.counts i 0) c.in_default.ensures (c.loop-lot.invariant.2 i (omega arith)))))
 
 pub returns : goal.returns
 unfolding units_of
