@@ -10,12 +10,12 @@ pub read_line-requires : goal.read_line-requires
 read_line-requires c =
     omega (arith, row_fits c.loop-k.k c.args.count c.args.size (length c.args.bytes.now) (omega arith) (omega arith))
 
-pub returns-in-err-line : goal.returns-in-err-line
-returns-in-err-line c =
-    let p = err_from_is_err_and c.from-residual.result c.from-residual.ensures.1 in
+pub returns-in_err-line : goal.returns-in_err-line
+returns-in_err-line c =
+    let p = err_from_is_err_and c.from_residual.result c.from_residual.ensures.1 in
     rw (p.1, p.2)
     (sym (lines_stop (supply_of c.args.supply.now) c.args.account c.args.bytes.now (map bid_of (take c.loop-k.k c.loop-k.lines)) c.loop-k.at c.loop-k.k c.args.count
-    c.in-err-line.field-0.0 (omega arith) c.in-err-line.ensures)
+    c.in_err-line.field-0.0 (omega arith) c.in_err-line.ensures)
     ∙ c.loop-k.invariant.2)
 
 pub overflow_add-at : goal.overflow_add-at
@@ -26,14 +26,14 @@ loop-k-preserved c =
     let ss = supply_of c.args.supply.now in
     let bs = c.args.bytes.now in
     let k = c.loop-k.k in
-    let line = c.in-ok-line.line in
+    let line = c.in_ok-line.line in
     let rest = lines_in ss c.args.account bs (c.loop-k.at + c.args.size) (c.args.count - (k + 1)) in
     let each : c.args.size ≡ 4 + length ss = omega arith in (
       simp length-set c.loop-k.invariant.0,
       omega (arith, next_row k c.args.size),
       ap (λ l. behind l rest) (bids_more c.loop-k.lines k line (omega arith))
           ∙ ap (λ w. behind (map bid_of (take k c.loop-k.lines) ++ bid_of line ∷ []) (lines_in ss c.args.account bs (c.loop-k.at + w) (c.args.count - (k + 1)))) each
-          ∙ lines_go ss c.args.account bs (map bid_of (take k c.loop-k.lines)) c.loop-k.at k c.args.count (bid_of line) (omega arith) c.in-ok-line.ensures
+          ∙ lines_go ss c.args.account bs (map bid_of (take k c.loop-k.lines)) c.loop-k.at k c.args.count (bid_of line) (omega arith) c.in_ok-line.ensures
           ∙ c.loop-k.invariant.2,
     )
 
