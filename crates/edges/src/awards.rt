@@ -246,8 +246,8 @@ fn rows_below(rt: HostRuntime) -> Result<(), Fail> {
     let supply = Supply::new(&[1])?;
     let sheets = [Sheet::new(); 2];
     let table = [1, 2, 3, 4, 5, 6, 7];
-    assert!(rt; row_below(&table, &sheets, &supply, 0) == &[3, 4]);
-    assert!(rt; row_below(&table, &sheets, &supply, 1) == &[5, 6]);
+    assert!(rt; row_below(&table, &sheets, &supply, 0) == [3, 4].as_slice());
+    assert!(rt; row_below(&table, &sheets, &supply, 1) == [5, 6].as_slice());
     assert!(rt; row_below(&table, &sheets, &supply, 2).is_empty());
     assert!(rt; row_below(&table[0..5], &sheets, &supply, 1).is_empty());
     Ok(())

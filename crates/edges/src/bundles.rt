@@ -31,7 +31,7 @@ fn steps(rt: HostRuntime) -> Result<(), Fail> {
         assert_eq!(rt; supply.place(&x), place);
         x = supply.next(&x);
     }
-    assert!(rt; x.units() == &[0, 0, 0]);
+    assert!(rt; x.units() == [0, 0, 0].as_slice());
     assert_eq!(rt; reserve.worth(&supply.units()), 312);
     assert_eq!(rt; reserve.worth(&Bundle::empty(2).with_count(1, 7)), 70);
     Ok(())
@@ -46,9 +46,9 @@ fn sums(rt: HostRuntime) -> Result<(), Fail> {
     let Some(both) = x.plus(&y) else {
         return Err(Fail::new("sum"));
     };
-    assert!(rt; both.units() == &[255, 7, 5]);
+    assert!(rt; both.units() == [255, 7, 5].as_slice());
     assert!(rt; x.plus(&x).is_none() && y.fits(&both) && !both.fits(&y));
-    assert!(rt; x.minus(&y).units() == &[255, 0]);
+    assert!(rt; x.minus(&y).units() == [255, 0].as_slice());
     assert!(rt; Bundle::new(&[0; 13]).is_none());
     Ok(())
 }
