@@ -1,6 +1,6 @@
 -- Sample sales with their awards, charges and worths. Assumes nothing: these are definitions and a statement.
 use Rattle.std.specs.Prelude.{◌≡◌, ℕ, List, [], ◌∷◌}
-use Rattle.std.specs.List.{AllByRecursion as All}
+use Rattle.std.specs.List.{AllByRecursion}
 use Rattle.bundle.specs.Bids.{Bid, Bids}
 use Rattle.table.specs.Tables.{at_reserve}
 use Rattle.vcg.specs.Auction.{Auction}
@@ -57,4 +57,4 @@ abbrev pub ComesOut : Sample → Type 0
 ComesOut s = (outcome_of (auction_in s) ≡ record { choice = s.award; charge = s.charges }) × (best_worth (auction_in s) ≡ s.worth)
 
 abbrev pub SamplesComeOut : Type 0
-SamplesComeOut = All ComesOut samples
+SamplesComeOut = AllByRecursion ComesOut samples

@@ -1,6 +1,6 @@
 -- One message. Assumes nothing.
 use Rattle.std.proofs.Common.{◌≡◌, ℕ, zero, suc, ◌<◌, ◌≤◌, Bool, true, false, cond, ltb, ◌⊎◌, List, [], ◌∷◌, length, get_or, set, Ok, Err, Result, sym, refl, ap, ◌∙◌, inl, inr, ⊎_elim, arith}
-use Rattle.std.proofs.lemmas.List.{length-map, length-set, get_or-set_other, set-get_or}
+use Rattle.std.proofs.lemmas.List.{length-map, length-set, get_or-set_other, map-set, set-get_or}
 use Rattle.std.proofs.lemmas.Bool.{lt-ltb, le-ltb, cond-true, cond-false, cases_lt, cases_order, eqb-true, eqb-false}
 use Rattle.bundle.specs.Bids.{Bids}
 use Rattle.sheets.specs.declared.refusals.MessageRefusal.{MessageRefusal}
@@ -133,6 +133,16 @@ length-post supply es m =
 pub length-posts : (supply : List ℕ) (es : List Entry) (ms : List (List ℕ)) → length (posts supply es ms) ≡ length es
 length-posts supply es [] = refl
 length-posts supply es (m ∷ ms) = length-posts supply (post supply es m) ms ∙ length-post supply es m
+
+-- messages leave the accounts
+accounts_put : (es : List Entry) (r : Result Submission MessageRefusal) → accounts_of (put es r) ≡ accounts_of es
+accounts_put es (Ok s) =
+    map-set (λ (e : Entry). e.account) es s.farm _ ∙ ap (set (accounts_of es) s.farm) (sym (account-at es s.farm)) ∙ set-get_or (accounts_of es) s.farm 0
+accounts_put es (Err e) = refl
+
+pub accounts_posts : (supply : List ℕ) (es : List Entry) (ms : List (List ℕ)) → accounts_of (posts supply es ms) ≡ accounts_of es
+accounts_posts supply es [] = refl
+accounts_posts supply es (m ∷ ms) = accounts_posts supply (post supply es m) ms ∙ accounts_put es (read_for supply es m)
 
 pub named : (i : ℕ) (m : List ℕ) → names i m ≡ true → 6 ≤ length m → get_or m 0 0 ≡ i
 named i [] e g = absurd (omega arith)

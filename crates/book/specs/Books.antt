@@ -1,17 +1,9 @@
 -- What a `Book` stands for. Assumes nothing: these are definitions.
-use Rattle.std.specs.Prelude.{ℕ, List, [], ◌∷◌, length, take, count_by, nat_lt}
+use Rattle.std.specs.Prelude.{ℕ, List, length, take, count_by, nat_lt}
 use Rattle.bundle.specs.Stocks.{supply_of}
-use Rattle.sheets.specs.Sheets.{bids_of}
-use Rattle.sheets.specs.declared.parts.Sheet.{Sheet}
+pub use Rattle.book.specs.Places.{entries}
 use Rattle.book.specs.Posting.{Entry}
 use Rattle.book.specs.declared.state.Book.{Book}
-
--- the places of farms with these accounts, numbers and sheets
-abbrev pub entries : List ℕ → List ℕ → List Sheet → List Entry
-entries [] ns ss = []
-entries (a ∷ rest) [] ss = []
-entries (a ∷ rest) (n ∷ ns) [] = []
-entries (a ∷ rest) (n ∷ ns) (s ∷ ss) = record { account = a; number = n; bids = bids_of s } ∷ entries rest ns ss
 
 unfoldable pub entries_of : Book → List Entry
 entries_of b = take b.farms (entries b.accounts b.numbers b.sheets)

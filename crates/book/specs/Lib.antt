@@ -1,3 +1,4 @@
 pub mod Books
+pub mod Places
 pub mod Posting
 pub mod Promises

@@ -25,6 +25,15 @@ accounts_of es = map (λ (e : Entry). e.account) es
 abbrev pub numbers_of : List Entry → List ℕ
 numbers_of es = map (λ (e : Entry). e.number) es
 
+abbrev pub bids_in : List Entry → List Bids
+bids_in es = map (λ (e : Entry). e.bids) es
+
+-- places with these accounts and numbers, and no sheet
+abbrev pub emptied : List ℕ → List ℕ → List Entry
+emptied [] ns = []
+emptied (a ∷ rest) [] = []
+emptied (a ∷ rest) (n ∷ ns) = record { account = a; number = n; bids = [] } ∷ emptied rest ns
+
 -- what a message says to a book with these entries
 abbrev pub read_for : List ℕ → List Entry → List ℕ → Result Submission MessageRefusal
 read_for supply es m = read_message supply (accounts_of es) (numbers_of es) m

@@ -1,8 +1,7 @@
 -- What the book promises. Assumes nothing: these are definitions and statements.
 use Rattle.std.specs.Prelude.{◌≡◌, ℕ, ◌≤◌, ◌⊎◌, List, [], ◌∷◌, map, length, slice_index, slice_index_or}
-use Rattle.std.specs.List.{AllByRecursion as All}
-use Rattle.sheets.specs.Allowed.{Allowed}
 use Rattle.sheets.specs.Reading.{u32_at}
+pub use Rattle.book.specs.Places.{AllAllowed}
 use Rattle.book.specs.Posting.{Entry, no_entry, fresh, posts, told, own}
 
 -- the same messages but for their order
@@ -42,10 +41,6 @@ PlaceOwn =
     (supply : List ℕ) (es fs : List Entry) (i : ℕ) (ms ns : List (List ℕ)) →
     length es ≡ length fs → slice_index_or es i no_entry ≡ slice_index_or fs i no_entry → own i ms ≡ own i ns →
     slice_index_or (posts supply es ms) i no_entry ≡ slice_index_or (posts supply fs ns) i no_entry
-
--- every sheet in the book is allowed for its farm
-abbrev pub AllAllowed : List ℕ → List Entry → Type 0
-AllAllowed supply es = All (λ (e : Entry). Allowed supply e.account e.bids) es
 
 -- what is allowed stays so, whatever comes in
 abbrev pub StaysAllowed : Type 0

@@ -1,9 +1,11 @@
 // The book: opened, and changed by messages.
-ghost use Rattle.std.specs.Prelude.{◌≡◌, ◌<◌, ◌≤◌, ◌||◌, map, length, take, IfSome, if◌then◌else◌, Some, None, Ok, nat_eq, nat_lt};
+ghost use Rattle.std.specs.Prelude.{◌≡◌, ◌<◌, ◌≤◌, ◌||◌, map, length, take, IfSome, if◌then◌else◌, Some, None, Ok, nat_eq, nat_lt, slice_index};
 ghost use Rattle.std.specs.Option.{option_map};
-ghost use Rattle.sheets.specs.Sheets.{submission_of};
+ghost use Rattle.bundle.specs.Stocks.{supply_of};
+ghost use Rattle.sheets.specs.Allowed.{Allowed};
+ghost use Rattle.sheets.specs.Sheets.{bids_of, submission_of};
 ghost use Rattle.book.specs.Books.{entries_of, book_supply, standing};
-ghost use Rattle.book.specs.Posting.{fresh, read_for, put, post, answer_of};
+ghost use Rattle.book.specs.Posting.{fresh, accounts_of, numbers_of, bids_in, emptied, read_for, put, post, answer_of};
 
 use crate::answers::Answer;
 use crate::state::Book;
@@ -44,7 +46,8 @@ impl Book {
 
     // The book with the message in its farm's place.
     fn holding(mut self, message: Message) -> Book
-        requires { message.farm < self.farms }
+        requires known { message.farm < self.farms }
+        requires allowed { Allowed (supply_of self.supply) (slice_index self.accounts message.farm) (bids_of message.sheet) }
         ensures places { entries_of result ≡ put (entries_of self) (Ok (submission_of message)) }
         ensures terms { result.supply ≡ self.supply }
     {
@@ -60,7 +63,7 @@ impl Book {
         ensures terms { result.0.supply ≡ self.supply }
         ensures answer { result.1 ≡ answer_of (read_for (book_supply self) (entries_of self) bytes.now) }
     {
-        let accounts = &self.accounts[0..self.farms];
+        let accounts = self.accounts();
         let numbers = &self.numbers[0..self.farms];
         match read(bytes, &self.supply, accounts, numbers) {
             Ok(message) => (self.holding(message), Answer::Taken),
@@ -79,5 +82,39 @@ impl Book {
             }
         }
         n
+    }
+
+    // What the sheets are checked against.
+    pub fn supply(&self) -> Supply
+        ensures { supply_of result ≡ book_supply self.now }
+    {
+        self.supply
+    }
+
+    // The accounts of the farms.
+    pub fn accounts(&self) -> &[u64]
+        ensures { result.now ≡ accounts_of (entries_of self.now) }
+    {
+        &self.accounts[0..self.farms]
+    }
+
+    // The sheets of the farms.
+    pub fn sheets(&self) -> &[Sheet]
+        ensures { map bids_of result.now ≡ bids_in (entries_of self.now) }
+    {
+        &self.sheets[0..self.farms]
+    }
+
+    // The book with these accounts, under the same numbers and with no sheets; as it is where there is not one account for each farm.
+    pub fn emptied(mut self, accounts: &[u64]) -> Book
+        ensures places { entries_of result ≡ (if nat_eq (length accounts.now) (length (entries_of self)) then emptied accounts.now (numbers_of (entries_of self)) else entries_of self) }
+        ensures terms { result.supply ≡ self.supply }
+    {
+        if accounts.len() != self.farms {
+            return self;
+        }
+        self.accounts = accounts_of(accounts);
+        self.sheets = [Sheet::new(); 48];
+        self
     }
 }

@@ -1,10 +1,13 @@
 // What the book holds.
-ghost use Rattle.std.specs.Prelude.{◌≡◌, ◌≤◌, length};
+ghost use Rattle.std.specs.Prelude.{◌≡◌, ◌≤◌, length, take};
+ghost use Rattle.bundle.specs.Stocks.{supply_of};
+ghost use Rattle.book.specs.Places.{entries, AllAllowed};
 
 use bundle::Supply;
 use sheets::Sheet;
 
 // The supply that sheets are checked against, and a place for each of at most 48 farms: the first `farms` of each array.
+// Every sheet is allowed for its farm.
 #[derive(Clone, Copy)]
 pub struct Book {
     pub(crate) supply: Supply,
@@ -16,4 +19,5 @@ pub struct Book {
     ghost accounts_long: { length accounts ≡ 48 },
     ghost numbers_long: { length numbers ≡ 48 },
     ghost sheets_long: { length sheets ≡ 48 },
+    ghost allowed: { ∥ AllAllowed (supply_of supply) (take farms (entries accounts numbers sheets)) ∥₁ },
 }

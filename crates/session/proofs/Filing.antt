@@ -1,6 +1,6 @@
 -- A file that is written is read as that opening and those messages. Assumes nothing.
 use Rattle.std.proofs.Common.{◌≡◌, ℕ, ◌+◌, ◌*◌, ◌/◌, ◌%◌, ◌^◌, ◌<◌, ◌≤◌, List, [], ◌∷◌, ◌++◌, length, get_or, sym, refl, ap, ◌∙◌, arith}
-use Rattle.std.specs.List.{flat_map, AllByRecursion as All}
+use Rattle.std.specs.List.{flat_map, AllByRecursion}
 use Rattle.std.proofs.lemmas.List.{append-nil, append_assoc, length-append, get_or_at, drop_at}
 use Rattle.std.proofs.lemmas.Bool.{le-ltb, cond-false}
 use Rattle.sheets.specs.Reading.{u32_at}
@@ -34,7 +34,7 @@ u64_back pre rest n h =
     (λ i. first i + second i * 4294967296) ∙ omega arith
 
 -- lots are read back
-pub lots_back : (pre rest : List ℕ) (ls : List Lot) → All (λ (l : Lot). l.reserve < 2 ^ 32) ls →
+pub lots_back : (pre rest : List ℕ) (ls : List Lot) → AllByRecursion (λ (l : Lot). l.reserve < 2 ^ 32) ls →
     lots_at (pre ++ (flat_map lot_bytes ls ++ rest)) (length pre) (length ls) ≡ ls
 unfolding lots_at
 lots_back pre rest [] small = refl
@@ -51,7 +51,7 @@ lots_back pre rest (l ∷ ls) small =
     λ i. record { units = here i; reserve = price i } ∷ others i
 
 -- accounts are read back
-pub accounts_back : (pre rest : List ℕ) (held : List ℕ) → All (λ (a : ℕ). a < 2 ^ 32) held →
+pub accounts_back : (pre rest : List ℕ) (held : List ℕ) → AllByRecursion (λ (a : ℕ). a < 2 ^ 32) held →
     accounts_at (pre ++ (flat_map u32_bytes held ++ rest)) (length pre) (length held) ≡ held
 unfolding accounts_at
 accounts_back pre rest [] small = refl
@@ -128,7 +128,7 @@ messages_behind lots accounts company rest =
 
 -- an opening is read back, whatever follows it
 pub opening_back : (lots : List Lot) (accounts : List ℕ) (company : ℕ) (rest : List ℕ) →
-    All (λ (l : Lot). l.reserve < 2 ^ 32) lots → All (λ (a : ℕ). a < 2 ^ 32) accounts → company < 2 ^ 64 →
+    AllByRecursion (λ (l : Lot). l.reserve < 2 ^ 32) lots → AllByRecursion (λ (a : ℕ). a < 2 ^ 32) accounts → company < 2 ^ 64 →
     (opening_in (opening_bytes lots accounts company ++ rest) ≡ open_sale lots accounts company)
     × (opening_size (opening_bytes lots accounts company ++ rest) ≡ length (opening_bytes lots accounts company))
 opening_back lots accounts company rest priced held small =

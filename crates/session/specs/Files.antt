@@ -1,6 +1,6 @@
 -- The bytes of a sale's file. Assumes nothing: these are definitions and a statement.
 use Rattle.std.specs.Prelude.{◌≡◌, ℕ, ◌/◌, ◌%◌, ◌^◌, ◌<◌, List, ◌∷◌, ◌++◌, length}
-use Rattle.std.specs.List.{flat_map, AllByRecursion as All}
+use Rattle.std.specs.List.{flat_map, AllByRecursion}
 use Rattle.sheets.specs.Writing.{u32_bytes}
 use Rattle.sale.specs.Opening.{open_sale}
 use Rattle.sale.specs.declared.lots.Lot.{Lot}
@@ -27,6 +27,6 @@ file_bytes lots accounts company ms = opening_bytes lots accounts company ++ fla
 abbrev pub FileBack : Type 0
 FileBack =
     (lots : List Lot) (accounts : List ℕ) (company : ℕ) (ms : List (List ℕ)) →
-    All (λ (l : Lot). l.reserve < 2 ^ 32) lots → All (λ (a : ℕ). a < 2 ^ 32) accounts → company < 2 ^ 64 →
+    AllByRecursion (λ (l : Lot). l.reserve < 2 ^ 32) lots → AllByRecursion (λ (a : ℕ). a < 2 ^ 32) accounts → company < 2 ^ 64 →
     (opening_in (file_bytes lots accounts company ms) ≡ open_sale lots accounts company)
     × (messages_in (file_bytes lots accounts company ms) ≡ ms)

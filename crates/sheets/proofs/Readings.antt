@@ -1,6 +1,6 @@
 -- What is read is taken, and its writing is what was read. Assumes nothing.
 use Rattle.std.proofs.Common.{◌≡◌, ℕ, zero, suc, ◌+◌, ◌*◌, ◌/◌, ◌%◌, ◌^◌, ◌<◌, ◌≤◌, cond, eqb, ltb, List, [], ◌∷◌, ◌++◌, length, get_or, drop, Ok, Err, sym, refl, ap, ◌∙◌, subst, append_assoc, suc-mul, zero-mul, arith}
-use Rattle.std.specs.List.{flat_map, AllByRecursion as All}
+use Rattle.std.specs.List.{flat_map, AllByRecursion}
 use Rattle.std.proofs.lemmas.List.{drop_more, drop_all, append-nil}
 use Rattle.std.proofs.lemmas.Bool.{ltb-true, ltb-false, eqb-true}
 use Rattle.bundle.specs.Bids.{Bid, Bids}
@@ -115,12 +115,12 @@ unfolding lines_in
 lines_none supply account bs p ls e = cc
 
 -- so many lines as are read, all of them covered
-pub lines_taken : (supply : List ℕ) (account : ℕ) (bs : List ℕ) (p n : ℕ) (ls : Bids) → lines_in supply account bs p n ≡ Ok ls → (length ls ≡ n) × All (Covered supply account) ls
-lines_taken supply account bs p zero ls e = subst (λ x. (length x ≡ 0) × All (Covered supply account) x) (lines_none supply account bs p ls e) (refl, tt)
+pub lines_taken : (supply : List ℕ) (account : ℕ) (bs : List ℕ) (p n : ℕ) (ls : Bids) → lines_in supply account bs p n ≡ Ok ls → (length ls ≡ n) × AllByRecursion (Covered supply account) ls
+lines_taken supply account bs p zero ls e = subst (λ x. (length x ≡ 0) × AllByRecursion (Covered supply account) x) (lines_none supply account bs p ls e) (refl, tt)
 lines_taken supply account bs p (suc n) ls e =
     let step = lines_step supply account bs p n ls e in
     let more = lines_taken supply account bs (p + (4 + length supply)) n step.1 step.3 in
-    subst (λ x. (length x ≡ suc n) × All (Covered supply account) x) step.4
+    subst (λ x. (length x ≡ suc n) × AllByRecursion (Covered supply account) x) step.4
     (ap suc more.0, (line_taken supply account bs p step.0 step.2, more.1))
 
 -- a sheet that is read is allowed
@@ -165,7 +165,7 @@ taken_if_read supply accounts numbers bs s e =
 -- What was read is the writing of what is taken, where the bytes are bytes.
 
 -- bytes are below 256, and so is the 0 past the last
-pub under : (bs : List ℕ) → All (λ b. b < 256) bs → (p : ℕ) → get_or bs p 0 < 256
+pub under : (bs : List ℕ) → AllByRecursion (λ b. b < 256) bs → (p : ℕ) → get_or bs p 0 < 256
 under [] h p = omega arith
 under (b ∷ bs) h zero = h.0
 under (b ∷ bs) h (suc p) = under bs h.1 p
@@ -216,10 +216,10 @@ module _ (bs : List ℕ) (bytes : (p : ℕ) → get_or bs p 0 < 256) where
 
     -- lines are the writing of what is read there
     pub lines_written : (p n : ℕ) (ls : Bids) → lines_in supply account bs p n ≡ Ok ls → p + n * (4 + length supply) ≤ length bs →
-        (drop p bs ≡ flat_map line_bytes ls ++ drop (p + n * (4 + length supply)) bs) × All (λ (l : Bid). l.value < 2 ^ 32) ls
+        (drop p bs ≡ flat_map line_bytes ls ++ drop (p + n * (4 + length supply)) bs) × AllByRecursion (λ (l : Bid). l.value < 2 ^ 32) ls
     lines_written p zero ls e h =
         let at : p ≡ p + zero * (4 + length supply) = omega (arith, zero-mul (4 + length supply)) in
-        subst (λ x. (drop p bs ≡ flat_map line_bytes x ++ drop (p + zero * (4 + length supply)) bs) × All (λ (l : Bid). l.value < 2 ^ 32) x)
+        subst (λ x. (drop p bs ≡ flat_map line_bytes x ++ drop (p + zero * (4 + length supply)) bs) × AllByRecursion (λ (l : Bid). l.value < 2 ^ 32) x)
         (lines_none supply account bs p ls e) (ap (λ q. drop q bs) at, tt)
     lines_written p (suc n) ls e h =
         let w = 4 + length supply in
@@ -229,7 +229,7 @@ module _ (bs : List ℕ) (bytes : (p : ℕ) → get_or bs p 0 < 256) where
         let at : p + w + n * w ≡ p + suc n * w = omega (arith, suc-mul n w) in
         let here = line-written p l step.2 (omega arith) in
         let more = lines_written (p + w) n ms step.3 (omega arith) in
-        subst (λ x. (drop p bs ≡ flat_map line_bytes x ++ drop (p + suc n * w) bs) × All (λ (l : Bid). l.value < 2 ^ 32) x) step.4 (
+        subst (λ x. (drop p bs ≡ flat_map line_bytes x ++ drop (p + suc n * w) bs) × AllByRecursion (λ (l : Bid). l.value < 2 ^ 32) x) step.4 (
           here.0
               ∙ ap (λ x. line_bytes l ++ x) (more.0 ∙ ap (λ q. flat_map line_bytes ms ++ drop q bs) at)
               ∙ sym (append_assoc (line_bytes l) (flat_map line_bytes ms) (drop (p + suc n * w) bs)),

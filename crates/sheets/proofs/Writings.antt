@@ -1,7 +1,7 @@
 -- A submission that is taken is read back from its writing. Assumes nothing.
 use Rattle.std.proofs.Common.{◌≡◌, ℕ, suc, ◌+◌, ◌*◌, ◌/◌, ◌%◌, ◌^◌, ◌<◌, cond, ltb, List, [], ◌∷◌, ◌++◌, length, get_or, drop, Ok, Err, sym, refl, ap, ◌∙◌, append_assoc, add-zero, mod-eq_of_lt, suc-mul, div-add-mod', zero-mul, arith}
 use native.Mathlib.Nat.{div-div-eq-div-mul}
-use Rattle.std.specs.List.{flat_map, AllByRecursion as All}
+use Rattle.std.specs.List.{flat_map, AllByRecursion}
 use Rattle.std.proofs.lemmas.List.{get_or-drop, get_or_at, drop_at, length-append}
 use Rattle.std.proofs.lemmas.Bool.{lt-ltb, le-ltb, eq-eqb, cond-true, cond-false}
 use Rattle.bundle.specs.Bids.{Bid, Bids}
@@ -75,7 +75,7 @@ pub length-line : (supply : List ℕ) (account : ℕ) (l : Bid) → Covered supp
 length-line supply account l ok = omega (arith, ok.long)
 
 -- covered lines are read back
-pub lines_back : (supply : List ℕ) (account : ℕ) (pre : List ℕ) (ls : Bids) → All (Covered supply account) ls → All (λ (l : Bid). l.value < 2 ^ 32) ls → lines_in supply account (pre ++ flat_map line_bytes ls) (length pre) (length ls) ≡ Ok ls
+pub lines_back : (supply : List ℕ) (account : ℕ) (pre : List ℕ) (ls : Bids) → AllByRecursion (Covered supply account) ls → AllByRecursion (λ (l : Bid). l.value < 2 ^ 32) ls → lines_in supply account (pre ++ flat_map line_bytes ls) (length pre) (length ls) ≡ Ok ls
 unfolding lines_in
 lines_back supply account pre [] ok small = refl
 lines_back supply account pre (l ∷ ls) ok small =
@@ -90,7 +90,7 @@ lines_back supply account pre (l ∷ ls) ok small =
     then_ok _ _ l here ∙ then_ok _ _ ls tail
 
 -- and so many lines take so many times that
-pub length_lines : (supply : List ℕ) (account : ℕ) (ls : Bids) → All (Covered supply account) ls → length (flat_map line_bytes ls) ≡ length ls * (4 + length supply)
+pub length_lines : (supply : List ℕ) (account : ℕ) (ls : Bids) → AllByRecursion (Covered supply account) ls → length (flat_map line_bytes ls) ≡ length ls * (4 + length supply)
 length_lines supply account [] ok = omega (arith, zero-mul (4 + length supply))
 length_lines supply account (l ∷ ls) ok =
     omega (arith, length-append (line_bytes l) (flat_map line_bytes ls), length-line supply account l ok.0, length_lines supply account ls ok.1, suc-mul (length ls) (4 + length supply))

@@ -4,7 +4,6 @@ use Rattle.std.proofs.lemmas.List.{length-map}
 use Rattle.bundle.specs.Reserves.{prices_of}
 use Rattle.sheets.specs.Sheets.{bids_of}
 use Rattle.table.specs.Tables.{auction_of}
-use Rattle.vcg.specs.Auction.{chosen}
 use Rattle.vcg.specs.Optimum.{best_choice, worth_without, charge_at}
 use Rattle.vcg.proofs.Optimal.{length-award}
 use Rattle.vcg.proofs.Outcomes.{charge_room}

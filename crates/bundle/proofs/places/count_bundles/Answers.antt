@@ -1,4 +1,4 @@
-use Rattle.std.proofs.Common.{◌≡◌, ◌+◌, ◌*◌, ◌<◌, ◌≤◌, ◌⊎◌, length, get_or, drop, sym, ap, ◌∙◌, inl, inr, ⊎_elim, arith}
+use Rattle.std.proofs.Common.{◌≡◌, ◌+◌, ◌*◌, ◌<◌, ◌≤◌, length, get_or, drop, sym, ap, ◌∙◌, inl, inr, ⊎_elim, arith}
 use Rattle.bundle.specs.Bundles.{units_of}
 use Rattle.bundle.specs.Supplies.{unsold_lot}
 use Rattle.bundle.specs.Units.{bundles}

@@ -1,7 +1,10 @@
-use Rattle.std.proofs.Common.{eqb, ltb, map, length, Some, sym, refl, ap, ◌∙◌, arith}
+use Rattle.std.proofs.Common.{eqb, ltb, List, map, length, Some, sym, refl, ap, ◌∙◌, subst, arith}
 use Rattle.std.proofs.lemmas.Bool.{or_from, ne_eqb, le-ltb, cond-false}
+use Rattle.bundle.specs.Stocks.{supply_of}
 use Rattle.book.specs.Books.{entries_of}
-use Rattle.book.specs.Posting.{fresh}
+use Rattle.book.specs.Places.{AllAllowed}
+use Rattle.book.specs.Posting.{Entry, fresh}
+use Rattle.book.proofs.Allows.{fresh-allowed}
 use Rattle.book.proofs.Entries.{entries-fresh}
 use Rattle.book.proofs.state.Book.open.Goals as goal
 
@@ -14,4 +17,16 @@ returns c =
           ap (λ l. Some l) (entries-fresh (length xs) 48 c.accounts_of.result c.new.result (omega arith) c.new.ensures ∙ ap (map fresh) c.accounts_of.ensures)
           ∙ sym (cond-false _ _ _ (or_from (eqb (length xs) 0) (ltb 48 (length xs)) (ne_eqb (length xs) 0 (λ e. omega arith)) (le-ltb 48 (length xs) (omega arith))));
       terms = refl;
+    }
+
+pub invariant_of-result : goal.invariant_of-result
+invariant_of-result c =
+    let xs = c.args.accounts.now in
+    let none = entries-fresh (length xs) 48 c.accounts_of.result c.new.result (omega arith) c.new.ensures in
+    record {
+      few = omega arith;
+      accounts_long = omega arith;
+      numbers_long = refl;
+      sheets_long = refl;
+      allowed = ∣ subst (λ (l : List Entry). AllAllowed (supply_of c.args.supply) l) (sym none) (fresh-allowed (supply_of c.args.supply) _) ∣₁;
     }
