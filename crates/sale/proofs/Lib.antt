@@ -1,2 +1,3 @@
+pub mod Closes
 pub mod Copies
 pub mod Openings

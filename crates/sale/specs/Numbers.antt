@@ -1,5 +1,7 @@
--- The number and the place of each refusal of an opening. Assumes nothing: these are definitions.
+-- The number and the place of each refusal of an opening and of a close. Assumes nothing: these are definitions.
 use Rattle.std.specs.Prelude.{ℕ}
+use Rattle.sale.specs.declared.refusals.ClosingRefusal.{ClosingRefusal}
+use Rattle.sale.specs.declared.refusals.ClosingRefusal.TheVariants.{Closed, Row}
 use Rattle.sale.specs.declared.refusals.OpeningRefusal.{OpeningRefusal}
 use Rattle.sale.specs.declared.refusals.OpeningRefusal.TheVariants.{LotCount, Supply, Price, FarmCount, Account, Company}
 
@@ -18,3 +20,11 @@ opening_place (Price p) = p
 opening_place (FarmCount p) = p
 opening_place (Account p) = p
 opening_place (Company p) = p
+
+abbrev pub closing_number : ClosingRefusal → ℕ
+closing_number (Closed p) = 1
+closing_number (Row p) = 15
+
+abbrev pub closing_place : ClosingRefusal → ℕ
+closing_place (Closed p) = p
+closing_place (Row p) = p

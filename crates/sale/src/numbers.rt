@@ -1,8 +1,8 @@
 // The number and the place of a refusal.
 ghost use Rattle.std.specs.Prelude.{◌≡◌};
-ghost use Rattle.sale.specs.Numbers.{opening_number, opening_place};
+ghost use Rattle.sale.specs.Numbers.{opening_number, opening_place, closing_number, closing_place};
 
-use crate::refusals::OpeningRefusal;
+use crate::refusals::{ClosingRefusal, OpeningRefusal};
 
 impl OpeningRefusal {
     pub fn number(self) -> u8
@@ -28,6 +28,25 @@ impl OpeningRefusal {
             | OpeningRefusal::FarmCount(place)
             | OpeningRefusal::Account(place)
             | OpeningRefusal::Company(place) => place,
+        }
+    }
+}
+
+impl ClosingRefusal {
+    pub fn number(self) -> u8
+        ensures { result ≡ closing_number self }
+    {
+        match self {
+            ClosingRefusal::Closed(_) => 1,
+            ClosingRefusal::Row(_) => 15,
+        }
+    }
+
+    pub fn place(self) -> usize
+        ensures { result ≡ closing_place self }
+    {
+        match self {
+            ClosingRefusal::Closed(place) | ClosingRefusal::Row(place) => place,
         }
     }
 }

@@ -1,4 +1,5 @@
-// Why a sale is not opened, each with the place of the fault.
+// Why a sale is not opened or closed, each with the place of the fault.
+
 #[derive(Clone, Copy, PartialEq, Eq, Debug)]
 pub enum OpeningRefusal {
     // There are no lots, or more than twelve.
@@ -13,4 +14,12 @@ pub enum OpeningRefusal {
     Account(usize),
     // The company's account is above 10^15.
     Company(usize),
+}
+
+#[derive(Clone, Copy, PartialEq, Eq, Debug)]
+pub enum ClosingRefusal {
+    // The sale is closed already.
+    Closed(usize),
+    // A lent row has not the length it needs: the table (0), the row for the award (1) or that for the charges (2).
+    Row(usize),
 }

@@ -1,0 +1,4 @@
+pub mod Closings
+pub mod Payments
+pub mod Truths
+pub mod Walks

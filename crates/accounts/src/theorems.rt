@@ -1,0 +1,9 @@
+// The theorem on what a farm has after a close.
+ghost use Rattle.accounts.specs.Promises.{TrueMessageIsBest};
+
+// Of two runs of messages that differ in the last taken one of a farm, the one with the true sheet leaves it no worse off.
+pub fn true_message_is_best_stands() -> u8
+    ensures { TrueMessageIsBest }
+{
+    0
+}

@@ -1,0 +1,19 @@
+// A sale from its opening on.
+use crate::state::Sale;
+use book::Book;
+use bundle::Reserve;
+
+// What a sale holds once it is closed: no sheets, each account less its charge, and the company's account with all charges.
+#[derive(Clone, Copy)]
+pub struct ClosedSale {
+    pub(crate) book: Book,
+    pub(crate) reserve: Reserve,
+    pub(crate) company: u64,
+}
+
+// A sale takes messages until it is closed.
+#[derive(Clone, Copy)]
+pub enum Life {
+    Open(Sale),
+    Closed(ClosedSale),
+}
