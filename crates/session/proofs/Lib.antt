@@ -1,4 +1,6 @@
 pub mod Filing
 pub mod Framing
 pub mod Rows
+pub mod Samples
 pub mod Walks
+pub mod Truths

@@ -2,3 +2,6 @@ pub mod Files
 pub mod Frames
 pub mod Parts
 pub mod Session
+pub mod Closing
+pub mod Promises
+pub mod Samples

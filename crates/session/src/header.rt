@@ -48,6 +48,13 @@ fn count_farms(file: &[u8]) -> usize
     byte_at(file, 1 + count_lots(file) * 5) as usize
 }
 
+// How many farms the file names.
+pub fn farm_count(file: &[u8]) -> usize
+    ensures { result ≡ farm_count file.now }
+{
+    count_farms(file)
+}
+
 // How many bytes the opening has, or would have.
 pub(crate) fn size_of_opening(file: &[u8]) -> usize
     ensures { result ≡ opening_size file.now }

@@ -1,6 +1,7 @@
 // Theorems on the file.
 ghost use Rattle.session.specs.Files.{FileBack};
 ghost use Rattle.session.specs.Frames.{FramesBack};
+ghost use Rattle.session.specs.Samples.{SamplesClose};
 
 // Messages that are written one after the other are read so.
 pub fn frames_back_stands() -> u8
@@ -12,6 +13,13 @@ pub fn frames_back_stands() -> u8
 // A file that is written is read as that opening and those messages.
 pub fn file_back_stands() -> u8
     ensures { FileBack }
+{
+    0
+}
+
+// A run that closes a sale as the promise on true sheets has it: what farm 1 has by its true sheet, by a larger and by a smaller worth.
+pub fn samples_close_stands() -> u8
+    ensures { SamplesClose }
 {
     0
 }

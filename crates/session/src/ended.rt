@@ -1,0 +1,10 @@
+// What the run over a file to the close comes to.
+use sale::{ClosingRefusal, Life};
+
+#[derive(Clone, Copy)]
+pub struct Session {
+    // The sale at the end.
+    pub sale: Life,
+    // What the award is worth, or why the sale is not closed.
+    pub closing: Result<u64, ClosingRefusal>,
+}
