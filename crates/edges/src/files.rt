@@ -5,7 +5,7 @@ use session::{RunRefusal, message_count, run};
 
 // One lot of 2 units at 5, two farms with 100 and 50, and 7 in the company's account: 23 bytes; then two messages of 11 bytes,
 // the second with a worth above its account, and a byte more.
-const FILE: &[u8] =
+pub const FILE: &[u8] =
     b"\x01\x02\x05\0\0\0\x02\x64\0\0\0\x32\0\0\0\x07\0\0\0\0\0\0\0\x0b\0\0\x01\0\0\0\x01\x3c\0\0\0\x02\x0b\0\x01\x01\0\0\0\x01\x3c\0\0\0\x02\0";
 
 // For the first so many bytes: how many messages there are, and what the last of them is told.
@@ -25,7 +25,7 @@ fn refused(file: &[u8], row: &mut [Answer]) -> (u8, usize) {
     }
 }
 
-fn numbers_of(refusal: RunRefusal) -> (u8, usize) {
+pub fn numbers_of(refusal: RunRefusal) -> (u8, usize) {
     match refusal {
         RunRefusal::Opening(refusal) => (refusal.number(), refusal.place()),
         RunRefusal::Room(count) => (255, count),

@@ -8,8 +8,14 @@ mod awards;
 #[cfg(test)]
 mod bundles;
 #[cfg(test)]
+mod closings;
+#[cfg(test)]
 mod files;
 #[cfg(test)]
 mod messages;
 #[cfg(test)]
 mod openings;
+#[cfg(test)]
+mod runs;
+#[cfg(test)]
+mod samples;

@@ -1,0 +1,78 @@
+// Whole files that are run to the close.
+use crate::answers::{UNTOLD, all_told, closed};
+use crate::files::{FILE, numbers_of};
+use book::Answer;
+use session::run_to_close;
+use std::process::Abort;
+use std::test::Fail;
+
+// Two lots of one unit at 10, three farms with 200, 100 and 100, and 1,000 in the company's account: 32 bytes; then three messages
+// of 12 bytes, which write 120 for both lots, 70 for the first and 60 for the second.
+const THREE: &[u8] =
+    b"\x02\x01\x0a\0\0\0\x01\x0a\0\0\0\x03\xc8\0\0\0\x64\0\0\0\x64\0\0\0\xe8\x03\0\0\0\0\0\0\x0c\0\0\x01\0\0\0\x01\x78\0\0\0\x01\x01\x0c\0\x01\x01\0\0\0\x01\x46\0\0\0\x01\0\x0c\0\x02\x01\0\0\0\x01\x3c\0\0\0\0\x01";
+
+// What a run is refused with, or (0, 0); one that is refused has to leave its rows as they were.
+fn refused(rt: &impl Abort, file: &[u8], answers: &mut [Answer]) -> Result<(u8, usize), Fail> {
+    let mut table = [7; 9];
+    let mut award = [7; 2];
+    let mut charges = [7; 2];
+    match run_to_close(file, answers, &mut table, &mut award, &mut charges) {
+        Ok(_) => Ok((0, 0)),
+        Err(refusal) => {
+            assert!(rt; table == [7; 9] && award == [7; 2] && charges == [7; 2]);
+            Ok(numbers_of(refusal))
+        }
+    }
+}
+
+// A row that is too short for the answers, and a lot of 65 units: no answer is told.
+#[test]
+fn untold(rt: HostRuntime) -> Result<(), Fail> {
+    let mut row = [UNTOLD; 2];
+    assert_eq!(rt; refused(&rt, FILE, &mut row)?, (255, 3));
+    assert!(rt; all_told(&row, &[(2, 99); 2]));
+    assert!(rt; FILE.len() == 50);
+    let mut file = [0; 50];
+    file.copy_from_slice(FILE);
+    file[1] = 65;
+    let mut row = [UNTOLD; 3];
+    assert_eq!(rt; refused(&rt, &file, &mut row)?, (10, 0));
+    assert!(rt; all_told(&row, &[(2, 99); 3]));
+    Ok(())
+}
+
+// A whole run to the close, with a table that is just long enough.
+#[test]
+fn three_farms(rt: HostRuntime) -> Result<(), Fail> {
+    let mut answers = [UNTOLD; 4];
+    let mut table = [7; 16];
+    let mut award = [7; 3];
+    let mut charges = [7; 3];
+    let Ok(session) = run_to_close(THREE, &mut answers, &mut table, &mut award, &mut charges) else {
+        return Err(Fail::new("refused"));
+    };
+    assert_eq!(rt; closed(session.closing), (130, 0, 0));
+    assert!(rt; all_told(&answers, &[(0, 0), (0, 0), (0, 0), (2, 99)]));
+    assert!(rt; award == [0, 1, 1] && charges == [0, 60, 50]);
+    let sale = session.sale;
+    assert!(rt; sale.accounts() == [200, 40, 50].as_slice() && sale.company() == 1110);
+    Ok(())
+}
+
+// A table that is one entry short: the messages are answered, and the sale is not closed.
+#[test]
+fn too_large(rt: HostRuntime) -> Result<(), Fail> {
+    let mut answers = [UNTOLD; 3];
+    let mut table = [7; 8];
+    let mut award = [7; 2];
+    let mut charges = [7; 2];
+    let Ok(session) = run_to_close(FILE, &mut answers, &mut table, &mut award, &mut charges) else {
+        return Err(Fail::new("refused"));
+    };
+    assert_eq!(rt; closed(session.closing), (0, 15, 0));
+    assert!(rt; all_told(&answers, &[(0, 0), (7, 6), (2, 0)]));
+    assert!(rt; table == [7; 8] && award == [7; 2] && charges == [7; 2]);
+    let sale = session.sale;
+    assert!(rt; sale.accounts() == [100, 50].as_slice() && sale.company() == 7);
+    Ok(())
+}
