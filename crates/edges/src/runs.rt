@@ -8,7 +8,7 @@ use std::test::Fail;
 
 // Two lots of one unit at 10, three farms with 200, 100 and 100, and 1,000 in the company's account: 32 bytes; then three messages
 // of 12 bytes, which write 120 for both lots, 70 for the first and 60 for the second.
-const THREE: &[u8] =
+const THREE_FARMS: &[u8] =
     b"\x02\x01\x0a\0\0\0\x01\x0a\0\0\0\x03\xc8\0\0\0\x64\0\0\0\x64\0\0\0\xe8\x03\0\0\0\0\0\0\x0c\0\0\x01\0\0\0\x01\x78\0\0\0\x01\x01\x0c\0\x01\x01\0\0\0\x01\x46\0\0\0\x01\0\x0c\0\x02\x01\0\0\0\x01\x3c\0\0\0\0\x01";
 
 // What a run is refused with, or (0, 0); one that is refused has to leave its rows as they were.
@@ -48,7 +48,13 @@ fn three_farms(rt: HostRuntime) -> Result<(), Fail> {
     let mut table = [7; 16];
     let mut award = [7; 3];
     let mut charges = [7; 3];
-    let Ok(session) = run_to_close(THREE, &mut answers, &mut table, &mut award, &mut charges) else {
+    let Ok(session) = run_to_close(
+        THREE_FARMS,
+        &mut answers,
+        &mut table,
+        &mut award,
+        &mut charges,
+    ) else {
         return Err(Fail::new("refused"));
     };
     assert_eq!(rt; closed(session.closing), (130, 0, 0));
