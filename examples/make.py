@@ -1,5 +1,5 @@
 #!/usr/bin/env python3
-"""Writes the example sale files beside this script, NAME.sale, and what close_sale has to print of each, NAME.out.
+"""Writes the example sale files beside this script, NAME.sale, and what settle_sale has to print of each, NAME.out.
 docs/FORMATS.md has the formats. What is printed is not computed here: each sale stands with its award and its charges.
 
     python3 examples/make.py

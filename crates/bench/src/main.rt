@@ -4,9 +4,9 @@
 mod random;
 mod sales;
 
-use anyhow::anyhow;
 use sales::{FARMS, LargeSale, TABLE_LENGTH};
 use std::env;
+use std::process::ExitCode;
 use std::time::{Duration, Instant};
 
 const USAGE: &str = "usage: bench [--check | --help]";
@@ -69,9 +69,10 @@ fn measure_sale(rt: &HostRuntime, sale: &LargeSale) -> anyhow::Result<()> {
     Ok(())
 }
 
-fn measure(rt: &HostRuntime) -> anyhow::Result<()> {
+fn measure(rt: &HostRuntime) -> anyhow::Result<ExitCode> {
     measure_sale(rt, &twelve_lots(rt)?)?;
-    measure_sale(rt, &three_lots(rt)?)
+    measure_sale(rt, &three_lots(rt)?)?;
+    Ok(ExitCode::SUCCESS)
 }
 
 fn sum(worths: &[u64]) -> u64 {
@@ -95,12 +96,13 @@ fn check_sale(rt: &HostRuntime, sale: &LargeSale) -> anyhow::Result<()> {
     Ok(())
 }
 
-fn check(rt: &HostRuntime) -> anyhow::Result<()> {
+fn check(rt: &HostRuntime) -> anyhow::Result<ExitCode> {
     check_sale(rt, &twelve_lots(rt)?)?;
-    check_sale(rt, &three_lots(rt)?)
+    check_sale(rt, &three_lots(rt)?)?;
+    Ok(ExitCode::SUCCESS)
 }
 
-fn main(rt: HostRuntime) -> anyhow::Result<()> {
+fn main(rt: HostRuntime) -> anyhow::Result<ExitCode> {
     let mut args = env::args(&rt)?;
     let _program = args.next();
     let Some(word) = args.next() else {
@@ -108,17 +110,17 @@ fn main(rt: HostRuntime) -> anyhow::Result<()> {
     };
     if args.next().is_some() {
         eprintln!(rt; "bench: one argument at most\n{USAGE}")?;
-        return Err(anyhow!("usage"));
+        return Ok(ExitCode::FAILURE);
     }
     match word.as_str() {
         "--check" => check(&rt),
         "--help" => {
             print!(rt; "{HELP}")?;
-            Ok(())
+            Ok(ExitCode::SUCCESS)
         }
         other => {
             eprintln!(rt; "bench: unknown argument {other}\n{USAGE}")?;
-            Err(anyhow!("usage"))
+            Ok(ExitCode::FAILURE)
         }
     }
 }

@@ -1,10 +1,10 @@
 // close_sale FILE: opens the sale of a file, takes its messages, and prints which are refused.
 #![tactic(auto)]
 
-use anyhow::anyhow;
 use book::Answer;
 use sale::Sale;
 use session::{RunRefusal, message_count, run};
+use std::process::ExitCode;
 use std::{env, fs, io};
 
 const USAGE: &str = "usage: close_sale FILE | --help";
@@ -38,15 +38,15 @@ fn print_refused(rt: &HostRuntime, answers: &[Answer]) -> io::Result<()> {
     Ok(())
 }
 
-fn print_sale(rt: &HostRuntime, sale: &Sale, answers: &[Answer]) -> anyhow::Result<()> {
+fn print_sale(rt: &HostRuntime, sale: &Sale, answers: &[Answer]) -> io::Result<ExitCode> {
     print_refused(rt, answers)?;
     let sheets = sale.standing();
     println!(rt; "sheets {sheets}")?;
-    Ok(())
+    Ok(ExitCode::SUCCESS)
 }
 
 // A refused sale is told of on standard output, and ends with status 1.
-fn print_refusal(rt: &HostRuntime, refusal: RunRefusal) -> anyhow::Result<()> {
+fn print_refusal(rt: &HostRuntime, refusal: RunRefusal) -> io::Result<ExitCode> {
     match refusal {
         RunRefusal::Opening(refusal) => {
             let number = refusal.number();
@@ -55,42 +55,42 @@ fn print_refusal(rt: &HostRuntime, refusal: RunRefusal) -> anyhow::Result<()> {
         }
         RunRefusal::Room(count) => eprintln!(rt; "close_sale: no room for {count} answers")?,
     }
-    Err(anyhow!("the sale is refused"))
+    Ok(ExitCode::FAILURE)
 }
 
-fn close(rt: &HostRuntime, file: &[u8]) -> anyhow::Result<()> {
+fn close(rt: &HostRuntime, file: &[u8]) -> anyhow::Result<ExitCode> {
     let count = message_count(file);
     let mut answers = vec![in rt.alloc(); Answer::Taken; count]?;
     match run(file, &mut answers) {
-        Ok(sale) => print_sale(rt, &sale, &answers),
-        Err(refusal) => print_refusal(rt, refusal),
+        Ok(sale) => Ok(print_sale(rt, &sale, &answers)?),
+        Err(refusal) => Ok(print_refusal(rt, refusal)?),
     }
 }
 
-fn close_file(rt: &HostRuntime, path: &str) -> anyhow::Result<()> {
+fn close_file(rt: &HostRuntime, path: &str) -> anyhow::Result<ExitCode> {
     match fs::read(rt, path) {
         Ok(file) => close(rt, &file),
         Err(error) => {
             eprintln!(rt; "close_sale: {path}: {error}")?;
-            Err(anyhow!("the file cannot be read"))
+            Ok(ExitCode::FAILURE)
         }
     }
 }
 
-fn main(rt: HostRuntime) -> anyhow::Result<()> {
+fn main(rt: HostRuntime) -> anyhow::Result<ExitCode> {
     let mut args = env::args(&rt)?;
     let _program = args.next();
     let Some(first) = args.next() else {
         eprintln!(rt; "close_sale: no file is named\n{USAGE}")?;
-        return Err(anyhow!("usage"));
+        return Ok(ExitCode::FAILURE);
     };
     if args.next().is_some() {
         eprintln!(rt; "close_sale: one file at a time\n{USAGE}")?;
-        return Err(anyhow!("usage"));
+        return Ok(ExitCode::FAILURE);
     }
     if first.as_str() == "--help" {
         print!(rt; "{HELP}")?;
-        return Ok(());
+        return Ok(ExitCode::SUCCESS);
     }
     close_file(&rt, first.as_str())
 }

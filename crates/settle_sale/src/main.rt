@@ -3,7 +3,7 @@
 
 mod telling;
 
-use anyhow::anyhow;
+use std::process::ExitCode;
 use std::{env, fs};
 use telling::tell;
 
@@ -37,41 +37,41 @@ cannot be read.
 const TABLE_ENTRIES: usize = 8192;
 
 // A sale that is not closed ends with status 1.
-fn close(rt: &HostRuntime, file: &[u8]) -> anyhow::Result<()> {
+fn close(rt: &HostRuntime, file: &[u8]) -> anyhow::Result<ExitCode> {
     let told = tell(rt.alloc(), file, TABLE_ENTRIES)?;
     let text = told.text.as_str();
     print!(rt; "{text}")?;
     if told.closed {
-        Ok(())
+        Ok(ExitCode::SUCCESS)
     } else {
-        Err(anyhow!("the sale is not closed"))
+        Ok(ExitCode::FAILURE)
     }
 }
 
-fn close_file(rt: &HostRuntime, path: &str) -> anyhow::Result<()> {
+fn close_file(rt: &HostRuntime, path: &str) -> anyhow::Result<ExitCode> {
     match fs::read(rt, path) {
         Ok(file) => close(rt, &file),
         Err(error) => {
             eprintln!(rt; "settle_sale: {path}: {error}")?;
-            Err(anyhow!("the file cannot be read"))
+            Ok(ExitCode::FAILURE)
         }
     }
 }
 
-fn main(rt: HostRuntime) -> anyhow::Result<()> {
+fn main(rt: HostRuntime) -> anyhow::Result<ExitCode> {
     let mut args = env::args(&rt)?;
     let _program = args.next();
     let Some(first) = args.next() else {
         eprintln!(rt; "settle_sale: no file is named\n{USAGE}")?;
-        return Err(anyhow!("usage"));
+        return Ok(ExitCode::FAILURE);
     };
     if args.next().is_some() {
         eprintln!(rt; "settle_sale: one file at a time\n{USAGE}")?;
-        return Err(anyhow!("usage"));
+        return Ok(ExitCode::FAILURE);
     }
     if first.as_str() == "--help" {
         print!(rt; "{HELP}")?;
-        return Ok(());
+        return Ok(ExitCode::SUCCESS);
     }
     close_file(&rt, first.as_str())
 }
