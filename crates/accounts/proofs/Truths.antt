@@ -4,7 +4,6 @@ use Rattle.std.specs.List.{AllByRecursion}
 use Rattle.std.proofs.lemmas.List.{ext_get_or, get_or-set_other, get_or-set_same, length-map, length-set, map-set, set-get_or}
 use Rattle.std.proofs.lemmas.Bool.{cases_eq}
 use Rattle.bundle.specs.Bids.{Bids}
-use Rattle.bundle.specs.Units.{less, Within}
 use Rattle.bundle.proofs.Bundles.{get_or-less}
 use Rattle.sheets.specs.Allowed.{Allowed}
 use Rattle.sheets.specs.Reading.{Submission}
@@ -20,7 +19,6 @@ use Rattle.book.specs.Posting.{Entry, no_entry, accounts_of, numbers_of, bids_in
 use Rattle.book.specs.declared.answers.Answer.{Answer}
 use Rattle.book.proofs.Steps.{account-at, length-post, length-posts, post_other}
 use Rattle.book.proofs.Tells.{place_own}
-use Rattle.accounts.specs.Closing.{charges_for}
 use Rattle.accounts.specs.Promises.{wealth, TrueSheet, IsRefused, LastTaken, TrueMessageIsBest}
 use Rattle.accounts.proofs.Payments.{accounts_settled, bids-at, charge-within, chosen_held}
 

@@ -10,7 +10,7 @@ use Rattle.sheets.specs.Sheets.{bid_of, bids_of}
 use Rattle.sheets.specs.declared.parts.Line.{Line}
 use Rattle.sheets.specs.declared.parts.Sheet.{Sheet}
 use Rattle.table.specs.Tables.{rows, table_of, entry, onto}
-use Rattle.table.proofs.TableRows.{drop-rows, entry-rows, get_d_rows, get_or-table, length-rows}
+use Rattle.table.proofs.TableRows.{drop-rows, entry-rows, get_or-rows, get_or-table, length-rows}
 use Rattle.vcg.specs.Auction.{Auction, no_bid, chosen}
 use Rattle.vcg.specs.Optimum.{optimum, best_worth, makes, first_among, pick, award}
 use Rattle.vcg.proofs.Alike.{pick_like}
@@ -106,5 +106,5 @@ pub first_entry : (a : Auction) (t u : List ℕ) (m : ℕ) → m ≡ bundles a.s
 first_entry a t u m many is =
     let s = a.supply in
     (λ i. get_or (is i) (many i - 1) 0)
-    ∙ get_d_rows s a.keep a.bidders (drop (length (table_of a)) t) (bundles s - 1) (omega (arith, bundles_pos s))
+    ∙ get_or-rows s a.keep a.bidders (drop (length (table_of a)) t) (bundles s - 1) (omega (arith, bundles_pos s))
     ∙ ap (optimum a.keep a.bidders) (bundle_at-last s)

@@ -44,21 +44,8 @@ impl Book {
         })
     }
 
-    // The book with the message in its farm's place.
-    fn holding(mut self, message: Message) -> Book
-        requires known { message.farm < self.farms }
-        requires allowed { Allowed (supply_of self.supply) (slice_index self.accounts message.farm) (bids_of message.sheet) }
-        ensures places { entries_of result ≡ put (entries_of self) (Ok (submission_of message)) }
-        ensures terms { result.supply ≡ self.supply }
-    {
-        let farm = message.farm as usize;
-        self.numbers[farm] = message.number;
-        self.sheets[farm] = message.sheet;
-        self
-    }
-
     // The book after a message, and what is told of it.
-    pub fn post(self, bytes: &[u8]) -> (Book, Answer)
+    pub fn post(mut self, bytes: &[u8]) -> (Book, Answer)
         ensures places { entries_of result.0 ≡ post (book_supply self) (entries_of self) bytes.now }
         ensures terms { result.0.supply ≡ self.supply }
         ensures answer { result.1 ≡ answer_of (read_for (book_supply self) (entries_of self) bytes.now) }
@@ -66,7 +53,12 @@ impl Book {
         let accounts = self.accounts();
         let numbers = &self.numbers[0..self.farms];
         match read(bytes, &self.supply, accounts, numbers) {
-            Ok(message) => (self.holding(message), Answer::Taken),
+            Ok(message) => {
+                let farm = message.farm as usize;
+                self.numbers[farm] = message.number;
+                self.sheets[farm] = message.sheet;
+                (self, Answer::Taken)
+            }
             Err(refusal) => (self, Answer::Refused(refusal)),
         }
     }

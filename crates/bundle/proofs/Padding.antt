@@ -16,8 +16,8 @@ Padded xs n = (length xs ≡ 12) × (n ≤ 12) × ((j : ℕ) → n ≤ j → get
 pub length_front : (xs : List ℕ) (n : ℕ) → Padded xs n → length (take n xs) ≡ n
 length_front xs n p = length-take-le n xs (omega arith)
 
-pub get_d_front : (xs : List ℕ) (n : ℕ) → Padded xs n → (j : ℕ) → get_or (take n xs) j 0 ≡ get_or xs j 0
-get_d_front xs n p j =
+pub get_or-front : (xs : List ℕ) (n : ℕ) → Padded xs n → (j : ℕ) → get_or (take n xs) j 0 ≡ get_or xs j 0
+get_or-front xs n p j =
     ⊎_elim
     (λ h. get_or-take n xs j 0 h)
     (λ h. get_or_past (take n xs) j 0 (omega (arith, length_front xs n p)) ∙ sym (p.2 j h))
@@ -32,7 +32,7 @@ length_units b = length_front b.counts b.lots (padding b)
 
 pub get_or_units : (b : Bundle) (j : ℕ) → get_or (units_of b) j 0 ≡ get_or b.counts j 0
 unfolding units_of
-get_or_units b j = get_d_front b.counts b.lots (padding b) j
+get_or_units b j = get_or-front b.counts b.lots (padding b) j
 
 pub length-prices : (r : Reserve) → length (prices_of r) ≡ r.lots
 unfolding prices_of
@@ -40,7 +40,7 @@ length-prices r = length_front r.prices r.lots (r.long, r.few, r.padded)
 
 pub get_or-prices : (r : Reserve) (j : ℕ) → get_or (prices_of r) j 0 ≡ get_or r.prices j 0
 unfolding prices_of
-get_or-prices r j = get_d_front r.prices r.lots (r.long, r.few, r.padded) j
+get_or-prices r j = get_or-front r.prices r.lots (r.long, r.few, r.padded) j
 
 zeros : (k j : ℕ) → get_or {A = ℕ} (replicate k 0) j 0 ≡ 0
 zeros zero j = refl
@@ -75,7 +75,7 @@ pub less_front : (zs xs ys : List ℕ) (n m : ℕ) → Padded zs n → Padded xs
 less_front zs xs ys n m o p q e =
     ext_get_or 0 (take n zs) (less (take n xs) (take m ys))
     (omega (arith, length_front zs n o, length_front xs n p, length-less (take n xs) (take m ys)))
-    (λ j h. omega (arith, e j, get_d_front zs n o j, get_d_front xs n p j, get_d_front ys m q j, get_or-less (take n xs) (take m ys) j))
+    (λ j h. omega (arith, e j, get_or-front zs n o j, get_or-front xs n p j, get_or-front ys m q j, get_or-less (take n xs) (take m ys) j))
 
 length-plus_max : (x y : List ℕ) → length (plus x y) ≡ max (length x) (length y)
 unfolding plus
@@ -87,7 +87,7 @@ pub plus_front : (zs xs ys : List ℕ) (n m : ℕ) → Padded zs (max n m) → P
 plus_front zs xs ys n m o p q e =
     ext_get_or 0 (take (max n m) zs) (plus (take n xs) (take m ys))
     (omega (arith, length_front zs (max n m) o, length_front xs n p, length_front ys m q, length-plus_max (take n xs) (take m ys)))
-    (λ j h. omega (arith, e j, get_d_front zs (max n m) o j, get_d_front xs n p j, get_d_front ys m q j, get_or-plus (take n xs) (take m ys) j))
+    (λ j h. omega (arith, e j, get_or-front zs (max n m) o j, get_or-front xs n p j, get_or-front ys m q j, get_or-plus (take n xs) (take m ys) j))
 
 -- what a bundle's units are within, count by count
 pub units_within : (a b : Bundle) → ((k : ℕ) → k < a.lots → get_or a.counts k 0 ≤ get_or b.counts k 0) → within (units_of a) (units_of b) ≡ true

@@ -9,7 +9,7 @@ pub const FILE: &[u8] =
     b"\x01\x02\x05\0\0\0\x02\x64\0\0\0\x32\0\0\0\x07\0\0\0\0\0\0\0\x0b\0\0\x01\0\0\0\x01\x3c\0\0\0\x02\x0b\0\x01\x01\0\0\0\x01\x3c\0\0\0\x02\0";
 
 // For the first so many bytes: how many messages there are, and what the last of them is told.
-const CUTS: [(usize, usize, u8, usize); 6] = [
+pub const CUTS: [(usize, usize, u8, usize); 6] = [
     (24, 1, 2, 0),
     (28, 1, 2, 3),
     (35, 1, 6, 10),

@@ -1,6 +1,6 @@
 // Whole files that are run to the close.
-use crate::answers::{UNTOLD, all_told, closed};
-use crate::files::{FILE, numbers_of};
+use crate::answers::{UNTOLD, all_told, closed, told};
+use crate::files::{CUTS, FILE, numbers_of};
 use book::Answer;
 use session::run_to_close;
 use std::process::Abort;
@@ -23,6 +23,28 @@ fn refused(rt: &impl Abort, file: &[u8], answers: &mut [Answer]) -> Result<(u8, 
             Ok(numbers_of(refusal))
         }
     }
+}
+
+#[test]
+fn openings(rt: HostRuntime) -> Result<(), Fail> {
+    assert!(rt; FILE.len() == 50);
+    for size in 0..23 {
+        assert_eq!(rt; refused(&rt, &FILE[0..size], &mut [])?, (9, 0));
+    }
+    assert_eq!(rt; refused(&rt, &FILE[0..23], &mut [])?, (0, 0));
+    Ok(())
+}
+
+#[test]
+fn messages(rt: HostRuntime) -> Result<(), Fail> {
+    assert!(rt; FILE.len() == 50);
+    for (size, count, number, place) in CUTS {
+        assert!(rt; size <= 50 && count >= 1 && count <= 3);
+        let mut row = [UNTOLD; 3];
+        assert_eq!(rt; refused(&rt, &FILE[0..size], &mut row)?, (0, 0));
+        assert_eq!(rt; told(row[count - 1]), (number, place));
+    }
+    Ok(())
 }
 
 // A row that is too short for the answers, and a lot of 65 units: no answer is told.

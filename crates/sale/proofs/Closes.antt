@@ -13,13 +13,12 @@ use Rattle.award.specs.declared.refusals.AwardRefusal.{AwardRefusal}
 use Rattle.award.specs.declared.refusals.AwardRefusal.TheVariants.{Farms, Table, Award, Charges}
 use Rattle.award.proofs.Reserves.{sale_is_settled}
 use Rattle.book.specs.Places.{AllAllowed}
-use Rattle.book.specs.Posting.{no_entry, fresh, accounts_of, bids_in, posts, own_answers}
+use Rattle.book.specs.Posting.{no_entry, fresh, accounts_of, bids_in}
 use Rattle.book.proofs.Allows.{always_allowed}
 use Rattle.book.proofs.Orders as orders
 use Rattle.book.proofs.Steps.{accounts_posts, length-posts}
 use Rattle.book.proofs.Tells as tells
 use Rattle.accounts.specs.Closing.{charges_for, settlement, Rows, filled}
-use Rattle.accounts.specs.Promises.{Fair}
 use Rattle.accounts.proofs.Payments as payments
 use Rattle.sale.specs.Closing.{Stage, worth_or_row, auction_in, closed_sale, close_answer, close_sale, close_rows}
 use Rattle.sale.specs.Opening.{State, opened}

@@ -1,3 +1,4 @@
+pub mod Closings
 pub mod Filing
 pub mod Framing
 pub mod Rows

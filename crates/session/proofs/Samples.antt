@@ -1,5 +1,5 @@
 -- The sample by computation. Assumes nothing.
-use Rattle.std.proofs.Common.{ℕ, [], ◌∷◌, ◌++◌, refl}
+use Rattle.std.proofs.Common.{ℕ, [], ◌∷◌, refl}
 use Rattle.bundle.specs.Reserves.{priced}
 use Rattle.bundle.specs.Units.{less, within, bundles, bundle_at}
 use Rattle.sheets.specs.Reading.{units_in, lines_in}

@@ -1,5 +1,5 @@
 -- Of two files that differ in the last taken message of a farm, the one with the true sheet leaves it no worse off. Assumes nothing.
-use Rattle.std.proofs.Common.{◌≡◌, ℕ, ◌+◌, ◌^◌, ◌<◌, ◌≤◌, List, [], ◌∷◌, ◌++◌, get_or, is_ok, Ok, sym, ap, ◌∙◌, subst, append_assoc}
+use Rattle.std.proofs.Common.{◌≡◌, ℕ, ◌+◌, ◌^◌, ◌<◌, ◌≤◌, List, [], ◌∷◌, ◌++◌, get_or, is_ok, sym, ap, ◌∙◌, subst, append_assoc}
 use Rattle.std.specs.List.{flat_map, AllByRecursion}
 use Rattle.bundle.specs.Bids.{Bids}
 use Rattle.bundle.proofs.Checks.{then_back}
@@ -7,7 +7,7 @@ use Rattle.sheets.specs.Reading.{Submission}
 use Rattle.vcg.specs.Auction.{chosen}
 use Rattle.vcg.specs.Charges.{gets}
 use Rattle.vcg.specs.Optimum.{outcome_of}
-use Rattle.book.specs.Posting.{accounts_of, bids_in, posts}
+use Rattle.book.specs.Posting.{accounts_of, posts}
 use Rattle.accounts.specs.Closing.{auction_for, Rows}
 use Rattle.accounts.specs.Promises.{wealth}
 use Rattle.accounts.proofs.Truths.{sheet_stands, true_message_is_best}

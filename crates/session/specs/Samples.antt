@@ -1,7 +1,6 @@
 -- A sale that meets the premises of the promise on true sheets: farm 1 wants the first of two lots, which is worth 70 to it. Assumes nothing: these are
 -- definitions and a statement.
 use Rattle.std.specs.Prelude.{◌≡◌, ℕ, List, [], ◌∷◌, replicate}
-use Rattle.bundle.specs.Bids.{Bid}
 use Rattle.sheets.specs.Reading.{Submission}
 use Rattle.sheets.specs.Writing.{message_bytes}
 use Rattle.vcg.specs.Truth.{worth}

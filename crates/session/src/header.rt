@@ -50,7 +50,8 @@ fn count_farms(file: &[u8]) -> usize
 
 // How many farms the file names.
 pub fn farm_count(file: &[u8]) -> usize
-    ensures { result ≡ farm_count file.now }
+    ensures value { result ≡ farm_count file.now }
+    ensures small { result ≤ 255 }
 {
     count_farms(file)
 }

@@ -1,5 +1,5 @@
 -- What the run over a file tells. Assumes nothing.
-use Rattle.std.proofs.Common.{◌≡◌, ℕ, Bool, true, false, ltb, List, ◌++◌, length, drop, is_ok, IfOk, Ok, Err, string_bytes, Result, sym, refl, ap, ◌∙◌, arith}
+use Rattle.std.proofs.Common.{◌≡◌, ℕ, Bool, false, ltb, List, ◌++◌, length, is_ok, IfOk, Ok, Err, string_bytes, Result, sym, refl, ap, ◌∙◌, arith}
 use Rattle.std.specs.declared.alloc.AllocError.{AllocError}
 use Rattle.std.proofs.lemmas.List.{append-nil, drop_all}
 use Rattle.std.proofs.lemmas.Bool.{cond-false, le-ltb}
@@ -11,8 +11,8 @@ use Rattle.sale.specs.Opening.{State}
 use Rattle.sale.specs.declared.refusals.OpeningRefusal.{OpeningRefusal}
 use Rattle.book.proofs.Steps.{length-answers}
 use Rattle.sale.specs.States.{after, replies}
-use Rattle.session.specs.Closing.{Ending, CloseOutcome, close_outcome, close_run, close_within, left, rows_within}
-use Rattle.session.specs.Session.{Outcome, opening_in, messages_in, run, ran, run_within, noted, told_within}
+use Rattle.session.specs.Closing.{Ending, close_outcome, close_run, close_ran, close_within, left, rows_within}
+use Rattle.session.specs.Session.{Outcome, opening_in, messages_in, run, noted, told_within}
 use Rattle.session.specs.declared.refusals.RunRefusal.{RunRefusal}
 use Rattle.session.specs.declared.refusals.RunRefusal.TheVariants.{Opening}
 use Rattle.report.specs.Lines.{not_opened_text, told_text}
@@ -39,12 +39,6 @@ module _ (bs : List ℕ) (rows : Rows) (row : List Answer) (each : length row �
   abbrev posted : State → Outcome
   posted h = record { state = after h (messages_in bs); told = replies h (messages_in bs) }
 
-  within_ok : (h : State) → run bs ≡ Ok (posted h) → run_within (length row) bs ≡ Ok (after h (messages_in bs))
-  within_ok h is = cond-false _ _ _ room ∙ ap ran is
-
-  within_err : (d : OpeningRefusal) → run bs ≡ Err d → run_within (length row) bs ≡ Err (Opening d)
-  within_err d is = cond-false _ _ _ room ∙ ap ran is
-
   session_by : (q : Result State OpeningRefusal) (e : Ending) (told : List Answer) (end : Rows) → opening_in bs ≡ q →
       Ok e ≡ close_within (length row) bs rows → told ≡ told_within row bs → end ≡ rows_within (length row) bs rows → SessionTold e told end
   session_by (Ok h) e told end opened value tells filled =
@@ -52,19 +46,20 @@ module _ (bs : List ℕ) (rows : Rows) (row : List Answer) (each : length row �
       let is : run bs ≡ Ok (posted h) = then_ok (opening_in bs) _ h opened in
       let closed : close_run bs rows ≡ Ok (close_outcome (posted h) rows) = then_ok (run bs) _ (posted h) is in
       let o = close_outcome (posted h) rows in
-      let same : Ok e ≡ Ok (record { stage = o.stage; answer = o.answer }) = value ∙ then_ok (run_within (length row) bs) _ (after h ms) (within_ok h is) in
+      let same : Ok e ≡ Ok (record { stage = o.stage; answer = o.answer }) = value ∙ cond-false _ _ _ room ∙ ap close_ran closed in
       let ended : e ≡ record { stage = o.stage; answer = o.answer } = cc in
       let all : told ≡ o.told =
       tells ∙ cond-false _ _ _ room ∙ ap (λ r. noted r row) is
       ∙ ap (λ (l : List Answer). o.told ++ l) (drop_all (length o.told) row (omega (arith, each, length-answers h.supply h.entries ms)))
       ∙ append-nil o.told in
-      let final : end ≡ o.rows = filled ∙ ap (λ r. left r rows) (within_ok h is) in (
+      let final : end ≡ o.rows = filled ∙ cond-false _ _ _ room ∙ ap (λ r. left r rows) closed in (
         (λ i. told_text (ended i).answer (all i) (final i).award (final i).charges (accounts_of (ended i).stage.state.entries) (ended i).stage.state.company) ∙ ap outcome_text (sym closed),
         ap (λ (x : Ending). is_ok x.answer) ended ∙ ap is_closed (sym closed),
       )
   session_by (Err d) e told end opened value tells filled =
       let is : run bs ≡ Err d = then_err (opening_in bs) _ d opened in
-      let same : ◌≡◌ {A = Result Ending RunRefusal} (Ok e) (Err (Opening d)) = value ∙ then_err (run_within (length row) bs) _ (Opening d) (within_err d is) in
+      let closed : close_run bs rows ≡ Err d = then_err (run bs) _ d is in
+      let same : ◌≡◌ {A = Result Ending RunRefusal} (Ok e) (Err (Opening d)) = value ∙ cond-false _ _ _ room ∙ ap close_ran closed in
       absurd (let z : ◌≡◌ {A = ℕ} 0 1 = cc in omega arith)
 
   pub session_told : (e : Ending) (told : List Answer) (end : Rows) →
@@ -77,12 +72,13 @@ module _ (bs : List ℕ) (rows : Rows) (row : List Answer) (each : length row �
   refusal_by (Ok h) d opened value =
       let is : run bs ≡ Ok (posted h) = then_ok (opening_in bs) _ h opened in
       let o = close_outcome (posted h) rows in
-      let same : ◌≡◌ {A = Result Ending RunRefusal} (Err (Opening d)) (Ok (record { stage = o.stage; answer = o.answer })) = value ∙ then_ok (run_within (length row) bs) _ (after h (messages_in bs)) (within_ok h is) in
+      let closed : close_run bs rows ≡ Ok o = then_ok (run bs) _ (posted h) is in
+      let same : ◌≡◌ {A = Result Ending RunRefusal} (Err (Opening d)) (Ok (record { stage = o.stage; answer = o.answer })) = value ∙ cond-false _ _ _ room ∙ ap close_ran closed in
       absurd (let z : ◌≡◌ {A = ℕ} 0 1 = cc in omega arith)
   refusal_by (Err c) d opened value =
       let is : run bs ≡ Err c = then_err (opening_in bs) _ c opened in
       let closed : close_run bs rows ≡ Err c = then_err (run bs) _ c is in
-      let same : ◌≡◌ {A = Result Ending RunRefusal} (Err (Opening d)) (Err (Opening c)) = value ∙ then_err (run_within (length row) bs) _ (Opening c) (within_err c is) in
+      let same : ◌≡◌ {A = Result Ending RunRefusal} (Err (Opening d)) (Err (Opening c)) = value ∙ cond-false _ _ _ room ∙ ap close_ran closed in
       let here : d ≡ c = cc in
       (ap not_opened_text here ∙ ap outcome_text (sym closed), ap is_closed (sym closed))
 

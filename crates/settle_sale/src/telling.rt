@@ -67,8 +67,8 @@ fn tell_run(
         Ok(session) => tell_session(heap, &session, answers, award, charges),
         Err(refusal) => match refusal {
             RunRefusal::Opening(refusal) => tell_refusal(heap, refusal),
-            // There is a place for the answer to each message, so this does not come.
-            RunRefusal::Room(_) => Err(AllocError),
+            // There is a place for the answer to each message.
+            RunRefusal::Room(_) => unreachable!(),
         },
     }
 }

@@ -1,5 +1,5 @@
 -- Which submissions a sale takes, in its own words. Assumes nothing: these are definitions and a statement.
-use Rattle.std.specs.Prelude.{◌≡◌, ℕ, ◌^◌, ◌<◌, ◌≤◌, List, length, Ok, slice_index, slice_index_or}
+use Rattle.std.specs.Prelude.{◌≡◌, ℕ, ◌^◌, ◌<◌, ◌≤◌, List, length, Ok, slice_index}
 use Rattle.std.specs.List.{AllByRecursion}
 use Rattle.bundle.specs.Bids.{Bid, Bids}
 use Rattle.bundle.specs.Units.{Within}
@@ -20,7 +20,7 @@ pub record Allowed (supply : List ℕ) (account : ℕ) (bids : Bids) : Type 0 wh
 -- a submission is taken: its farm is one of the sale, its number is above the last, and its sheet is allowed
 pub record Taken (supply accounts numbers : List ℕ) (s : Submission) : Type 0 where
   pub known : s.farm < length accounts
-  pub above : slice_index_or numbers s.farm 0 < s.number
+  pub above : slice_index numbers s.farm < s.number
   pub allowed : Allowed supply (slice_index accounts s.farm) s.bids
 
 -- numbers that fit their bytes, as all do that are read

@@ -17,7 +17,7 @@ use Rattle.table.specs.Offers.{Roomy, SmallRow}
 use Rattle.table.specs.Refusals.{fill_answer}
 use Rattle.table.specs.Tables.{row, rows, entry, made, onto}
 use Rattle.table.proofs.Sheets.{stated_cap}
-use Rattle.table.proofs.TableRows.{length-row, get_or-row, entry_row, entry-rows, get_d_rows, rows_like, rows_more, rows-onto}
+use Rattle.table.proofs.TableRows.{length-row, get_or-row, entry_row, entry-rows, get_or-rows, rows_like, rows_more, rows-onto}
 
 -- a table with room for so many farms is filled
 pub room_enough : (farms b l : ℕ) → farms ≤ 48 → (farms + 1) * b ≤ l → fill_answer farms b l ≡ Ok tt
@@ -111,7 +111,7 @@ row_cap s keep n low sheets few j rest p h =
     let count : length bs ≤ 48 = omega (arith, length-drop j (map bids_of sheets), length-map sheets bids_of) in
     omega (
       arith,
-      get_d_rows s keep bs rest p h,
+      get_or-rows s keep bs rest p h,
       optimum_cap keep s n (2 ^ 32) low bs most (bundle_at s p) (length-bundle_at s p) (bundle_at-within s p),
       mul-le (length bs) (2 ^ 32) 48 (2 ^ 32) count (omega arith),
     )

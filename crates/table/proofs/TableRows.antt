@@ -97,8 +97,8 @@ first_row s keep [] t = refl
 first_row s keep (b ∷ bs) t = append_assoc (row s (optimum keep (b ∷ bs))) (rows s keep bs) t
 
 -- the entries of the first row
-pub get_d_rows : (s : List ℕ) (keep : List ℕ → ℕ) (bs : List Bids) (t : List ℕ) (p : ℕ) → p < bundles s → get_or (rows s keep bs ++ t) p 0 ≡ optimum keep bs (bundle_at s p)
-get_d_rows s keep bs t p h = ap (λ l. get_or l p 0) (first_row s keep bs t) ∙ get_or-row s (optimum keep bs) (later s keep bs ++ t) p h
+pub get_or-rows : (s : List ℕ) (keep : List ℕ → ℕ) (bs : List Bids) (t : List ℕ) (p : ℕ) → p < bundles s → get_or (rows s keep bs ++ t) p 0 ≡ optimum keep bs (bundle_at s p)
+get_or-rows s keep bs t p h = ap (λ l. get_or l p 0) (first_row s keep bs t) ∙ get_or-row s (optimum keep bs) (later s keep bs ++ t) p h
 
 pub entry-rows : (s : List ℕ) (keep : List ℕ → ℕ) (bs : List Bids) (t y : List ℕ) → length y ≡ length s → Within y s → entry s (rows s keep bs ++ t) y ≡ optimum keep bs y
 entry-rows s keep bs t y long held = ap (λ l. entry s l y) (first_row s keep bs t) ∙ entry_row s (optimum keep bs) (later s keep bs ++ t) y long held

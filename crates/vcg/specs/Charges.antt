@@ -1,5 +1,5 @@
 -- The rule of Vickrey, Clarke and Groves: a best choice, and from each bidder what its part costs the rest. Assumes nothing: these are definitions and statements.
-use Rattle.std.specs.Prelude.{◌≡◌, ℕ, ◌+◌, ◌<◌, ◌≤◌, List, [], length, get_or, slice_index, slice_index_or, slice_set}
+use Rattle.std.specs.Prelude.{◌≡◌, ℕ, ◌+◌, ◌<◌, ◌≤◌, List, [], length, slice_index, slice_index_or, slice_set}
 use Rattle.bundle.specs.Bids.{Bid, Bids}
 use Rattle.bundle.specs.Units.{less, Within}
 use Rattle.vcg.specs.Auction.{Auction, no_bid, chosen, taken, with_bids}
@@ -17,7 +17,7 @@ gets a o i = chosen (slice_index_or a.bidders i []) (slice_index o.choice i)
 pub record Charged (a : Auction) (o : Outcome) (i : ℕ) : Type 0 where
   pub without : List ℕ
   pub best : Best (with_bids a i []) without
-  pub sum : get_or o.charge i 0 + worth_of a o.choice ≡ worth_of (with_bids a i []) without + (gets a o i).value
+  pub sum : slice_index o.charge i + worth_of a o.choice ≡ worth_of (with_bids a i []) without + (gets a o i).value
 
 -- the rule
 pub record Ruled (a : Auction) (o : Outcome) : Type 0 where

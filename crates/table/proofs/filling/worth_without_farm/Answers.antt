@@ -9,7 +9,7 @@ use Rattle.vcg.specs.Optimum.{optimum}
 use Rattle.table.specs.Tables.{rows, entry, onto}
 use Rattle.table.proofs.Layers.{below_part, empty_row, filled-rows, small_row, small-keep}
 use Rattle.table.specs.Offers.{SmallRow}
-use Rattle.table.proofs.TableRows.{get_d_rows, length-rows}
+use Rattle.table.proofs.TableRows.{get_or-rows, length-rows}
 use Rattle.table.proofs.filling.worth_without_farm.Goals as goal
 
 pub fill_row-requires : goal.fill_row-requires
@@ -103,7 +103,7 @@ returns c =
     record {
       value =
           (λ i. get_or (filled i) (spot i) 0)
-          ∙ get_d_rows s keep bs rest (bundles s - 1) (omega (arith, bundles_pos s))
+          ∙ get_or-rows s keep bs rest (bundles s - 1) (omega (arith, bundles_pos s))
           ∙ ap (optimum keep bs) (bundle_at-last s);
       after = ap (drop ((k + 1) * bundles s)) filled ∙ drop_at (rows s keep bs) rest ((k + 1) * bundles s) (length-rows s keep bs ∙ ap (λ n. (n + 1) * bundles s) count);
     }
