@@ -26,7 +26,7 @@ fn refused(rt: &impl Abort, file: &[u8], answers: &mut [Answer]) -> Result<(u8, 
 }
 
 #[test]
-fn openings(rt: HostRuntime) -> Result<(), Fail> {
+fn cut_openings(rt: HostRuntime) -> Result<(), Fail> {
     assert!(rt; FILE.len() == 50);
     for size in 0..23 {
         assert_eq!(rt; refused(&rt, &FILE[0..size], &mut [])?, (9, 0));
@@ -36,7 +36,7 @@ fn openings(rt: HostRuntime) -> Result<(), Fail> {
 }
 
 #[test]
-fn messages(rt: HostRuntime) -> Result<(), Fail> {
+fn cut_messages(rt: HostRuntime) -> Result<(), Fail> {
     assert!(rt; FILE.len() == 50);
     for (size, count, number, place) in CUTS {
         assert!(rt; size <= 50 && count >= 1 && count <= 3);
