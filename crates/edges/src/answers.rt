@@ -3,7 +3,7 @@ use book::Answer;
 use sale::ClosingRefusal;
 use sheets::MessageRefusal;
 
-// An answer that no message is given: no message of under six bytes has 99.
+// An answer that no message is given: one that is refused for fewer than six bytes does not have 99.
 pub const UNTOLD: Answer = Answer::Refused(MessageRefusal::Short(99));
 
 // The number and the place of the refusal; (0, 0) where the message is taken.
