@@ -1,16 +1,15 @@
 // The book: opened, and changed by messages.
-ghost use Rattle.std.specs.Prelude.{◌≡◌, ◌<◌, ◌≤◌, ◌||◌, map, length, take, IfSome, if◌then◌else◌, Some, None, Ok, nat_eq, nat_lt, slice_index};
+ghost use Rattle.std.specs.Prelude.{◌≡◌, ◌<◌, ◌≤◌, ◌||◌, map, length, take, IfSome, if◌then◌else◌, Some, None, nat_eq, nat_lt};
 ghost use Rattle.std.specs.Option.{option_map};
 ghost use Rattle.bundle.specs.Stocks.{supply_of};
-ghost use Rattle.sheets.specs.Allowed.{Allowed};
-ghost use Rattle.sheets.specs.Sheets.{bids_of, submission_of};
+ghost use Rattle.sheets.specs.Sheets.{bids_of};
 ghost use Rattle.book.specs.Books.{entries_of, book_supply, standing};
-ghost use Rattle.book.specs.Posting.{fresh, accounts_of, numbers_of, bids_in, emptied, read_for, put, post, answer_of};
+ghost use Rattle.book.specs.Posting.{fresh, accounts_of, numbers_of, bids_in, emptied, read_for, post, answer_of};
 
 use crate::answers::Answer;
 use crate::state::Book;
 use bundle::Supply;
-use sheets::{Message, Sheet, read};
+use sheets::{Sheet, read};
 
 const MAX_FARMS: usize = 48;
 

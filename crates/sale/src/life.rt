@@ -1,5 +1,5 @@
 // The life of a sale: it takes messages until it is closed.
-ghost use Rattle.std.specs.Prelude.{◌≡◌, ◌≤◌, [], ◌∷◌};
+ghost use Rattle.std.specs.Prelude.{◌≡◌};
 ghost use Rattle.book.specs.Posting.{accounts_of};
 ghost use Rattle.accounts.specs.Closing.{lent};
 ghost use Rattle.sale.specs.Closing.{row_refused, close_answer, close_sale, close_rows};

@@ -7,7 +7,7 @@ use Rattle.vcg.specs.Truth.{worth}
 use Rattle.accounts.specs.Closing.{Rows, lent}
 use Rattle.sale.specs.declared.lots.Lot.{Lot}
 use Rattle.session.specs.Frames.{framed}
-use Rattle.session.specs.Promises.{file_with, wealth_after, Closes}
+use Rattle.session.specs.Promises.{wealth_after, Closes}
 use Rattle.session.specs.Closing.{CloseOutcome}
 
 abbrev pub sample_lots : List Lot
@@ -20,15 +20,10 @@ sample_accounts = 200 ∷ 100 ∷ 100 ∷ []
 abbrev pub one_bid : ℕ → ℕ → List ℕ → Submission
 one_bid farm value want = record { farm = farm; number = 1; bids = record { want = want; value = value } ∷ [] }
 
--- farm 1 writes this worth between the messages of farms 0 and 2
-abbrev pub sample_file : ℕ → List ℕ
-sample_file value =
-    file_with sample_lots sample_accounts 1000 (message_bytes (one_bid 0 120 (1 ∷ 1 ∷ [])) ∷ []) (message_bytes (one_bid 1 value (1 ∷ 0 ∷ []))) (framed (message_bytes (one_bid 2 60 (0 ∷ 1 ∷ []))))
-
 abbrev pub sample_rows : Rows
 sample_rows = lent (replicate 16 0) (replicate 3 0) (replicate 3 0)
 
--- the run over that file closes the sale, and farm 1 then has so much
+-- farm 1 writes this worth between the messages of farms 0 and 2: the run over that file closes the sale, and farm 1 then has so much
 pub record SampleCloses (value wealth : ℕ) : Type 0 where
   pub outcome : CloseOutcome
   pub closes : Closes sample_lots sample_accounts 1000 (message_bytes (one_bid 0 120 (1 ∷ 1 ∷ [])) ∷ []) (message_bytes (one_bid 1 value (1 ∷ 0 ∷ []))) (framed (message_bytes (one_bid 2 60 (0 ∷ 1 ∷ [])))) sample_rows (one_bid 1 value (1 ∷ 0 ∷ [])) outcome
