@@ -1,4 +1,2 @@
-pub mod Closings
 pub mod Payments
 pub mod Truths
-pub mod Walks

@@ -1,6 +1,7 @@
 -- What the farms pay is covered by their accounts. Assumes nothing.
-use Rattle.std.proofs.Common.{◌≡◌, ℕ, zero, suc, ◌+◌, ◌-◌, ◌*◌, ◌^◌, ◌<◌, ◌≤◌, List, [], ◌∷◌, map, length, get_or, take, sum, sym, refl, ap, ◌∙◌, subst, ⊎_elim, arith}
+use Rattle.std.proofs.Common.{◌≡◌, ℕ, zero, suc, ◌+◌, ◌-◌, ◌*◌, ◌^◌, ◌<◌, ◌≤◌, List, [], ◌∷◌, map, length, get_or, sum, sym, refl, ap, ◌∙◌, ⊎_elim, arith}
 use Rattle.std.proofs.lemmas.Nat.{mul-le}
+use Rattle.std.proofs.Math.ListN.{get_or-map}
 use Rattle.std.proofs.ByRecursion.{All-get_or, All-from_get_or, sum_by_le}
 use Rattle.std.proofs.lemmas.List.{get_or_past, length-map}
 use Rattle.std.proofs.lemmas.List.Sums.{sum_by-cons}
@@ -18,11 +19,8 @@ use Rattle.vcg.proofs.Rule.{charge_at_most, nothing_for_nothing}
 use Rattle.table.specs.Tables.{at_reserve}
 use Rattle.table.proofs.Sheets.{stated_cap}
 use Rattle.award.proofs.Reserves.{charge_covers_reserve, sale_is_settled}
-use Rattle.book.specs.Books.{entries_of, book_supply}
 use Rattle.book.specs.Places.{AllAllowed}
 use Rattle.book.specs.Posting.{Entry, no_entry, accounts_of, numbers_of, bids_in, emptied}
-use Rattle.book.specs.declared.state.Book.{Book}
-use Rattle.book.proofs.Entries.{bids_book, length_book}
 use Rattle.book.proofs.Steps.{account-at}
 use Rattle.accounts.specs.Closing.{auction_for, charges_for, settled}
 use Rattle.accounts.specs.Promises.{Fair}
@@ -42,19 +40,15 @@ chosen_held supply account b zero a = none_held supply account
 chosen_held supply account b (suc k) a =
     ⊎_elim
     (λ h. let l = All-get_or (Covered supply account) b k no_bid h a.covered in record { worth = l.worth; short = omega (arith, l.long); fits = l.fits })
-    (λ h. subst (λ (l : Bid). Held supply account l) (sym (get_or_past b k no_bid h)) (none_held supply account))
+    (λ h. rw (get_or_past b k no_bid h) (none_held supply account))
     (cases_lt k (length b))
 
 pub bids-at : (es : List Entry) (i : ℕ) → get_or (bids_in es) i [] ≡ (get_or es i no_entry).bids
-bids-at [] i = refl
-bids-at (e ∷ es) zero = refl
-bids-at (e ∷ es) (suc i) = bids-at es i
+bids-at es i = get_or-map (λ (e : Entry). e.bids) es i no_entry
 
 pub allowed_at : (supply : List ℕ) (es : List Entry) (i : ℕ) → i < length es → AllAllowed supply es → Allowed supply (get_or (accounts_of es) i 0) (get_or (bids_in es) i [])
 allowed_at supply es i h all =
-    let here = All-get_or (λ (e : Entry). Allowed supply e.account e.bids) es i no_entry h all in
-    subst (λ (n : ℕ). Allowed supply n (get_or (bids_in es) i [])) (sym (account-at es i))
-    (subst (λ (b : Bids). Allowed supply (get_or es i no_entry).account b) (sym (bids-at es i)) here)
+    rw (account-at es i, bids-at es i) (All-get_or (λ (e : Entry). Allowed supply e.account e.bids) es i no_entry h all)
 
 length-bids : (es : List Entry) → length (bids_in es) ≡ length es
 length-bids es = length-map es (λ (e : Entry). e.bids)
@@ -71,7 +65,7 @@ charge-within supply prices sheets i account h a =
       (chosen_held supply account (get_or sheets i []) (get_or (outcome_of s).choice i 0) a).worth,
     )
 
-pub length-charges : (supply prices : List ℕ) (sheets : List Bids) → length (outcome_of (at_reserve supply prices sheets)).charge ≡ length sheets
+length-charges : (supply prices : List ℕ) (sheets : List Bids) → length (outcome_of (at_reserve supply prices sheets)).charge ≡ length sheets
 length-charges supply prices sheets = (sale_is_settled supply prices sheets).each_once
 
 -- no charge is above the account that it is taken from
@@ -84,7 +78,7 @@ never_below_zero supply prices es i all =
     (cases_lt i (length es))
 
 -- no charge is above what a line can state
-pub charge-small : (supply prices : List ℕ) (sheets : List Sheet) (i : ℕ) → get_or (outcome_of (at_reserve supply prices (map bids_of sheets))).charge i 0 ≤ 2 ^ 32
+charge-small : (supply prices : List ℕ) (sheets : List Sheet) (i : ℕ) → get_or (outcome_of (at_reserve supply prices (map bids_of sheets))).charge i 0 ≤ 2 ^ 32
 unfolding gets chosen
 charge-small supply prices sheets i =
     let bs = map bids_of sheets in
@@ -96,19 +90,14 @@ charge-small supply prices sheets i =
     (λ h. omega (arith, get_or_past o.charge i 0 (omega (arith, length-charges supply prices bs))))
     (cases_lt i (length bs))
 
--- so what the farms of a book pay together is small
-pub income_small : (b : Book) (prices : List ℕ) → sum (charges_for (book_supply b) prices (entries_of b)) ≤ 48 * 2 ^ 32
-income_small b prices =
-    let sheets = take b.farms b.sheets in
-    let cs = charges_for (book_supply b) prices (entries_of b) in
-    let same : cs ≡ (outcome_of (at_reserve (book_supply b) prices (map bids_of sheets))).charge =
-    ap (λ (bs : List Bids). (outcome_of (at_reserve (book_supply b) prices bs)).charge) (bids_book b) in
-    let small : (i : ℕ) → get_or cs i 0 ≤ 2 ^ 32 = λ i. omega (arith, ap (λ l. get_or l i 0) same, charge-small (book_supply b) prices sheets i) in
-    let few : length cs ≤ 48 = omega (arith, length-charges (book_supply b) prices (bids_in (entries_of b)), length-bids (entries_of b), length_book b, b.few) in
+-- so what the farms pay together is small
+pub charges_small : (supply prices : List ℕ) (sheets : List Sheet) (cs : List ℕ) → cs ≡ (outcome_of (at_reserve supply prices (map bids_of sheets))).charge → length sheets ≤ 48 → sum cs ≤ 48 * 2 ^ 32
+charges_small supply prices sheets cs is few =
+    let long : length cs ≤ 48 = omega (arith, ap length is, length-charges supply prices (map bids_of sheets), length-map sheets bids_of) in
     omega (
       arith,
-      sum_by_le (λ (n : ℕ). n) (2 ^ 32) cs (All-from_get_or (λ (n : ℕ). n ≤ 2 ^ 32) cs 0 (λ i _. small i)),
-      mul-le (length cs) (2 ^ 32) 48 (2 ^ 32) few (omega arith),
+      sum_by_le (λ (n : ℕ). n) (2 ^ 32) cs (All-from_get_or (λ (n : ℕ). n ≤ 2 ^ 32) cs 0 (λ i _. omega (arith, ap (λ l. get_or l i 0) is, charge-small supply prices sheets i))),
+      mul-le (length cs) (2 ^ 32) 48 (2 ^ 32) long (omega arith),
     )
 
 pub accounts_emptied : (xs ns : List ℕ) → length xs ≤ length ns → accounts_of (emptied xs ns) ≡ xs
@@ -155,10 +144,10 @@ pub money_kept : (supply prices : List ℕ) (es : List Entry) → AllAllowed sup
     sum (accounts_of (settled es (charges_for supply prices es))) + sum (charges_for supply prices es) ≡ sum (accounts_of es)
 money_kept supply prices es all =
     let cs = charges_for supply prices es in
-    ap (λ l. sum l + sum cs) (accounts_settled es cs)
-    ∙ sum_less (accounts_of es) cs
+    rw (accounts_settled es cs)
+    (sum_less (accounts_of es) cs
     (length-charges supply prices (bids_in es) ∙ length-bids es ∙ sym (length-map es (λ (e : Entry). e.account)))
-    (λ i. never_below_zero supply prices es i all)
+    (λ i. never_below_zero supply prices es i all))
 
 pub charges_fair : (supply prices : List ℕ) (es : List Entry) (i : ℕ) → i < length es → AllAllowed supply es → Fair supply prices es i
 unfolding gets chosen

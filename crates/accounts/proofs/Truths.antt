@@ -1,8 +1,8 @@
 -- Of two runs of messages that differ in the last taken one of a farm, the one with the true sheet leaves it no worse off. Assumes nothing.
-use Rattle.std.proofs.Common.{◌≡◌, ℕ, ◌+◌, ◌-◌, ◌<◌, ◌≤◌, Bool, true, false, cond, List, [], ◌∷◌, ◌++◌, length, get_or, set, Ok, Err, Result, sym, refl, ap, ◌∙◌, subst, ⊎_elim, arith}
+use Rattle.std.proofs.Common.{◌≡◌, ℕ, ◌+◌, ◌-◌, ◌<◌, ◌≤◌, Bool, true, false, cond, List, [], ◌∷◌, ◌++◌, length, get_or, set, Ok, Err, IsErr, Result, sym, refl, ap, ◌∙◌, subst, ⊎_elim, arith}
 use Rattle.std.specs.List.{AllByRecursion}
 use Rattle.std.proofs.lemmas.List.{ext_get_or, get_or-set_other, get_or-set_same, length-map, length-set, map-set, set-get_or}
-use Rattle.std.proofs.lemmas.Bool.{cases_eq}
+use Rattle.std.proofs.lemmas.Bool.{cases_eq, false≢true}
 use Rattle.bundle.specs.Bids.{Bids}
 use Rattle.bundle.proofs.Bundles.{get_or-less}
 use Rattle.sheets.specs.Allowed.{Allowed}
@@ -15,11 +15,10 @@ use Rattle.vcg.specs.Optimum.{outcome_of}
 use Rattle.vcg.specs.Truth.{worth}
 use Rattle.table.specs.Tables.{at_reserve}
 use Rattle.award.proofs.Reserves.{true_sheet_is_best}
-use Rattle.book.specs.Posting.{Entry, no_entry, accounts_of, numbers_of, bids_in, read_for, put, post, posts, answer_of, names, told}
-use Rattle.book.specs.declared.answers.Answer.{Answer}
+use Rattle.book.specs.Posting.{Entry, no_entry, accounts_of, numbers_of, bids_in, Reply, read_for, put, post, posts, answer_of, names, told}
 use Rattle.book.proofs.Steps.{account-at, length-post, length-posts, post_other}
 use Rattle.book.proofs.Tells.{place_own}
-use Rattle.accounts.specs.Promises.{wealth, TrueSheet, IsRefused, LastTaken, TrueMessageIsBest}
+use Rattle.accounts.specs.Promises.{wealth, TrueSheet, LastTaken, TrueMessageIsBest}
 use Rattle.accounts.proofs.Payments.{accounts_settled, bids-at, charge-within, chosen_held}
 
 -- messages before and after one
@@ -29,17 +28,17 @@ posts-at supply es [] m later = refl
 posts-at supply es (b ∷ before) m later = posts-at supply (post supply es b) before m later
 
 -- a refused message changes nothing
-refused_post : (supply : List ℕ) (es : List Entry) (m : List ℕ) (r : Result Submission MessageRefusal) → read_for supply es m ≡ r → IsRefused (answer_of r) → post supply es m ≡ es
-refused_post supply es m (Ok s) e refused = absurd refused
+refused_post : (supply : List ℕ) (es : List Entry) (m : List ℕ) (r : Result Submission MessageRefusal) → read_for supply es m ≡ r → IsErr (answer_of r) → post supply es m ≡ es
+refused_post supply es m (Ok s) e refused = absurd (false≢true refused)
 refused_post supply es m (Err d) e refused = ap (put es) e
 
 -- so a farm whose messages are all refused keeps its place
-keeps_by : (supply : List ℕ) (es : List Entry) (i : ℕ) (m : List ℕ) (rest : List Answer) (b : Bool) → names i m ≡ b →
-    AllByRecursion IsRefused (cond b (answer_of (read_for supply es m) ∷ rest) rest) → AllByRecursion IsRefused rest × (get_or (post supply es m) i no_entry ≡ get_or es i no_entry)
+keeps_by : (supply : List ℕ) (es : List Entry) (i : ℕ) (m : List ℕ) (rest : List Reply) (b : Bool) → names i m ≡ b →
+    AllByRecursion IsErr (cond b (answer_of (read_for supply es m) ∷ rest) rest) → AllByRecursion IsErr rest × (get_or (post supply es m) i no_entry ≡ get_or es i no_entry)
 keeps_by supply es i m rest true e all = (all.1, ap (λ (ks : List Entry). get_or ks i no_entry) (refused_post supply es m (read_for supply es m) refl all.0))
 keeps_by supply es i m rest false e all = (all, post_other supply es i m e)
 
-keeps_place : (supply : List ℕ) (es : List Entry) (i : ℕ) (ms : List (List ℕ)) → AllByRecursion IsRefused (told supply es i ms) → get_or (posts supply es ms) i no_entry ≡ get_or es i no_entry
+keeps_place : (supply : List ℕ) (es : List Entry) (i : ℕ) (ms : List (List ℕ)) → AllByRecursion IsErr (told supply es i ms) → get_or (posts supply es ms) i no_entry ≡ get_or es i no_entry
 keeps_place supply es i [] all = refl
 keeps_place supply es i (m ∷ ms) all =
     let now = keeps_by supply es i m (told supply (post supply es m) i ms) (names i m) refl all in
@@ -53,7 +52,7 @@ record Stands (supply : List ℕ) (es fs : List Entry) (s : Submission) : Type 0
   allowed : Allowed supply (get_or es s.farm no_entry).account s.bids
 
 stands : (supply : List ℕ) (es : List Entry) (m : List ℕ) (later : List (List ℕ)) (s : Submission) → read_for supply es m ≡ Ok s →
-    AllByRecursion IsRefused (told supply (post supply es m) s.farm later) → Stands supply es (posts supply (post supply es m) later) s
+    AllByRecursion IsErr (told supply (post supply es m) s.farm later) → Stands supply es (posts supply (post supply es m) later) s
 stands supply es m later s read last =
     let i = s.farm in
     let taken = taken_if_read supply (accounts_of es) (numbers_of es) m s read in
@@ -62,7 +61,7 @@ stands supply es m later s read last =
     record {
       long = length-posts supply (post supply es m) later ∙ length-post supply es m;
       known = known;
-      mine = keeps_place supply (post supply es m) i later last ∙ ap (λ r. get_or (put es r) i no_entry) read ∙ get_or-set_same es i e no_entry known;
+      mine = rw (keeps_place supply (post supply es m) i later last, read) (get_or-set_same es i e no_entry known);
       allowed = subst (λ (n : ℕ). Allowed supply n s.bids) (account-at es i) taken.allowed;
     }
 
@@ -75,8 +74,7 @@ others_same supply es m n later s t j first second apart other =
     let f : Entry = record { account = (get_or es t.farm no_entry).account; number = t.number; bids = t.bids } in
     place_own supply (post supply es m) (post supply es n) j later later
     (length-post supply es m ∙ sym (length-post supply es n))
-    (ap (λ r. get_or (put es r) j no_entry) first ∙ get_or-set_other es s.farm j e no_entry apart
-    ∙ sym (ap (λ r. get_or (put es r) j no_entry) second ∙ get_or-set_other es t.farm j f no_entry other))
+    (rw (first, second, get_or-set_other es s.farm j e no_entry apart, get_or-set_other es t.farm j f no_entry other) refl)
     refl
 
 -- so the sheets differ in the farm's own alone
@@ -149,16 +147,14 @@ true_one_first supply prices es m n later s t value first second same st su true
 pub true_message_is_best : TrueMessageIsBest
 true_message_is_best supply prices es before later m n s t value first second same true-one =
     let fs = posts supply es before in
-    let refused : AllByRecursion IsRefused (told supply (post supply fs n) t.farm later) = second.last in
-    let best = true_one_first supply prices fs m n later s t value first.taken second.taken same
-    (stands supply fs m later s first.taken first.last) (stands supply fs n later t second.taken refused) true-one in
-    subst (λ (hs : List Entry). wealth supply prices hs value s.farm ≤ wealth supply prices (posts supply es (before ++ m ∷ later)) value s.farm) (sym (posts-at supply es before n later))
-    (subst (λ (hs : List Entry). wealth supply prices (posts supply (post supply fs n) later) value s.farm ≤ wealth supply prices hs value s.farm) (sym (posts-at supply es before m later)) best)
+    let refused : AllByRecursion IsErr (told supply (post supply fs n) t.farm later) = second.last in
+    rw (posts-at supply es before n later, posts-at supply es before m later)
+    (true_one_first supply prices fs m n later s t value first.taken second.taken same
+    (stands supply fs m later s first.taken first.last) (stands supply fs n later t second.taken refused) true-one)
 
 -- the sheet that stands for the farm then
 pub sheet_stands : (supply : List ℕ) (es : List Entry) (before : List (List ℕ)) (m : List ℕ) (later : List (List ℕ)) (s : Submission) → LastTaken supply es before m later s →
     get_or (bids_in (posts supply es (before ++ m ∷ later))) s.farm [] ≡ s.bids
 sheet_stands supply es before m later s taken =
-    ap (λ (fs : List Entry). get_or (bids_in fs) s.farm []) (posts-at supply es before m later)
-    ∙ bids-at (posts supply (post supply (posts supply es before) m) later) s.farm
-    ∙ ap (λ (e : Entry). e.bids) (stands supply (posts supply es before) m later s taken.taken taken.last).mine
+    rw (posts-at supply es before m later, bids-at (posts supply (post supply (posts supply es before) m) later) s.farm)
+    (ap (λ (e : Entry). e.bids) (stands supply (posts supply es before) m later s taken.taken taken.last).mine)

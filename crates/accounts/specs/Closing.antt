@@ -1,5 +1,6 @@
 -- How a sale is closed: what the farms pay, and what the book holds then. Assumes nothing: these are definitions.
-use Rattle.std.specs.Prelude.{ℕ, List, length, Ok, Err, sum, Result}
+use Rattle.std.specs.Prelude.{ℕ, List, length, sum, Result}
+use Rattle.bundle.specs.Checks.{viewed}
 use Rattle.bundle.specs.Units.{bundles, less}
 use Rattle.vcg.specs.Auction.{Auction}
 use Rattle.vcg.specs.Optimum.{best_worth, outcome_of}
@@ -36,8 +37,7 @@ settled es charges = emptied (less (accounts_of es) charges) (numbers_of es)
 
 -- the worth of the award and what the farms pay together
 abbrev pub settlement : Result ℕ AwardRefusal → ℕ → Result Settlement AwardRefusal
-settlement (Ok worth) income = Ok (record { worth = worth; income = income })
-settlement (Err e) income = Err e
+settlement r income = viewed (λ worth. record { worth = worth; income = income }) r
 
 -- the same for the sheets in the book, or which of the lent rows is wrong first
 abbrev pub closing : List ℕ → List ℕ → List Entry → Rows → Result Settlement AwardRefusal

@@ -1,5 +1,5 @@
 -- What closing promises. Assumes nothing: these are definitions and statements.
-use Rattle.std.specs.Prelude.{◌≡◌, ℕ, ◌+◌, ◌≤◌, List, ◌∷◌, ◌++◌, Ok, slice_index, slice_index_or}
+use Rattle.std.specs.Prelude.{◌≡◌, ℕ, ◌+◌, ◌≤◌, List, ◌∷◌, ◌++◌, Ok, IsErr, slice_index, slice_index_or}
 use Rattle.std.specs.List.{AllByRecursion}
 use Rattle.bundle.specs.Bids.{Bids}
 use Rattle.bundle.specs.Reserves.{priced}
@@ -9,8 +9,6 @@ use Rattle.vcg.specs.Charges.{gets}
 use Rattle.vcg.specs.Optimum.{best_choice, outcome_of}
 use Rattle.vcg.specs.Truth.{worth}
 use Rattle.book.specs.Posting.{Entry, accounts_of, read_for, post, posts, told}
-use Rattle.book.specs.declared.answers.Answer.{Answer}
-use Rattle.book.specs.declared.answers.Answer.TheVariants.{Taken, Refused}
 use Rattle.accounts.specs.Closing.{auction_for, charges_for, settled}
 
 -- a charge is at most the stated worth of the line awarded and at least the reserve of its units, and a farm that gets no line pays nothing
@@ -29,14 +27,10 @@ wealth supply prices es value i =
 abbrev pub TrueSheet : List ℕ → (List ℕ → ℕ) → Bids → Type 0
 TrueSheet supply value b = (x : List ℕ) → Within x supply → worth b x ≡ value x
 
-abbrev pub IsRefused : Answer → Type 0
-IsRefused Taken = ⊥
-IsRefused (Refused e) = Unit {0}
-
 -- m is taken after the messages before it, as the submission s, and is the last of its farm that is taken
 pub record LastTaken (supply : List ℕ) (es : List Entry) (before : List (List ℕ)) (m : List ℕ) (later : List (List ℕ)) (s : Submission) : Type 0 where
   pub taken : read_for supply (posts supply es before) m ≡ Ok s
-  pub last : AllByRecursion IsRefused (told supply (post supply (posts supply es before) m) s.farm later)
+  pub last : AllByRecursion IsErr (told supply (post supply (posts supply es before) m) s.farm later)
 
 -- no sheet serves a farm better than the true one, whatever the others send: of two runs of messages that differ in the last taken one of
 -- a farm, the one with the true sheet leaves it no worse off

@@ -1,5 +1,5 @@
 // Closes the sale of the sheets in a book.
-ghost use Rattle.std.specs.Prelude.{◌≡◌, ℕ, ◌*◌, ◌^◌, ◌≤◌, length, take, is_ok, IfOk, if◌then◌else◌, sum, slice_index};
+ghost use Rattle.std.specs.Prelude.{◌≡◌, ◌*◌, ◌^◌, ◌<◌, ◌≤◌, length, is_ok, IfOk, if◌then◌else◌, sum};
 ghost use Rattle.bundle.specs.Reserves.{prices_of};
 ghost use Rattle.bundle.specs.Stocks.{bundles_of};
 ghost use Rattle.bundle.specs.Units.{less, Within};
@@ -7,7 +7,6 @@ ghost use Rattle.vcg.specs.Optimum.{best_worth, outcome_of};
 ghost use Rattle.table.specs.Tables.{auction_of};
 ghost use Rattle.award.specs.Deciding.{decision};
 ghost use Rattle.book.specs.Books.{entries_of, book_supply};
-ghost use Rattle.book.specs.Posting.{accounts_of};
 ghost use Rattle.accounts.specs.Closing.{auction_for, charges_for, lent, filled, settled, settlement, closing};
 
 use crate::settlement::Settlement;
@@ -18,20 +17,16 @@ use sheets::Sheet;
 
 // Takes each charge from its account, and answers what they come to together.
 fn pay(charges: &[u64], accounts: &mut [u64]) -> u64
-    requires few { length charges.now ≤ 48 }
     requires each { length accounts.old ≡ length charges.now }
     requires covered { Within charges.now accounts.old }
-    requires small { (i : ℕ) → slice_index charges.now i ≤ 2 ^ 32 }
+    requires small { sum charges.now < 2 ^ 64 }
     ensures paid { accounts.new ≡ less accounts.old charges.now }
     ensures income { result ≡ sum charges.now }
 {
-    let mut income = 0;
-    for farm in 0..charges.len() {
-        let charge = charges[farm];
-        accounts[farm] -= charge;
-        income += charge;
+    for (farm, charge) in charges.iter().enumerate() {
+        accounts[farm] -= *charge;
     }
-    income
+    charges.iter().sum()
 }
 
 // Decides the sale of these sheets, and takes each charge from its farm's account; refused, with no change, as `decide` refuses.
@@ -48,26 +43,13 @@ fn settle(
     requires each { length accounts.old ≡ length sheets.now }
     requires covered { Within (outcome_of (auction_of supply.now reserve.now sheets.now)).charge accounts.old }
     ensures answer { result ≡ settlement (decision (length sheets.now) (bundles_of supply.now) (length table.old) (length award.old) (length charges.old) (best_worth (auction_of supply.now reserve.now sheets.now))) (sum (outcome_of (auction_of supply.now reserve.now sheets.now)).charge) }
+    ensures small { IfOk result (λ s. s.income ≤ 48 * 2 ^ 32) }
     ensures rows { lent table.new award.new charges.new ≡ (if is_ok result then filled (auction_of supply.now reserve.now sheets.now) (lent table.old award.old charges.old) else lent table.old award.old charges.old) }
     ensures accounts { accounts.new ≡ (if is_ok result then less accounts.old (outcome_of (auction_of supply.now reserve.now sheets.now)).charge else accounts.old) }
 {
-    match decide(supply, reserve, sheets, table, award, charges) {
-        Ok(worth) => {
-            let income = pay(charges, accounts);
-            Ok(Settlement { worth, income })
-        }
-        Err(refusal) => Err(refusal),
-    }
-}
-
-// The accounts of the farms, and 0 past them.
-fn accounts_in(book: &Book) -> [u64; 48]
-    ensures { take (length (entries_of book.now)) result ≡ accounts_of (entries_of book.now) }
-{
-    let accounts = book.accounts();
-    let mut all = [0u64; 48];
-    all[0..accounts.len()].copy_from_slice(accounts);
-    all
+    let worth = decide(supply, reserve, sheets, table, award, charges)?;
+    let income = pay(charges, accounts);
+    Ok(Settlement { worth, income })
 }
 
 // Closes the sale of the sheets in a book: fills the table, writes the award and the charges, takes each charge from its farm's account,
@@ -87,8 +69,9 @@ pub fn close(
 {
     let supply = book.supply();
     let sheets = book.sheets();
-    let mut all = accounts_in(&book);
+    let mut all = book.account_array();
     let accounts = &mut all[0..sheets.len()];
+    // No `?`: the book is handed back with either answer.
     match settle(&supply, reserve, sheets, table, award, charges, accounts) {
         Ok(settlement) => (book.emptied(accounts), Ok(settlement)),
         Err(refusal) => (book, Err(refusal)),

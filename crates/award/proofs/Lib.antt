@@ -1,4 +1,5 @@
 pub mod Bounds
+pub mod Decisions
 pub mod Picks
 pub mod Reserves
 pub mod Rewrites

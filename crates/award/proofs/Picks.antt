@@ -1,11 +1,14 @@
 -- One farm's choice, read from the table, in front of the choices of those after it. Assumes nothing.
-use Rattle.std.proofs.Common.{◌≡◌, ℕ, zero, suc, ◌+◌, ◌-◌, ◌*◌, ◌<◌, ◌≤◌, true, false, cond, ◌&&◌, ltb, leb, ◌⊎◌, List, [], ◌∷◌, ◌++◌, map, length, get_or, take, drop, set, sym, refl, ap, ◌∙◌, inl, inr, append_assoc, add-one, arith}
+use Rattle.std.proofs.Common.{◌≡◌, ℕ, zero, suc, Bool, Some, None, Option, position, ◌+◌, ◌-◌, ◌*◌, ◌<◌, ◌≤◌, true, false, cond, ◌&&◌, ltb, leb, List, [], ◌∷◌, ◌++◌, map, length, get_or, take, drop, set, sym, refl, ap, ◌∙◌, append_assoc, add-one, arith}
+use Rattle.std.proofs.Math.ListN.{get_or-map as get_or-map_own}
 use Rattle.std.proofs.lemmas.Nat.{mul-le}
-use Rattle.std.proofs.lemmas.List.{drop_all, drop_more, get_or-map, get_or_past, get_or-take, length-append, length-map, take_more_set}
-use Rattle.std.proofs.lemmas.Bool.{and_from, cond-true, le-leb, lt-ltb}
+use Rattle.std.proofs.lemmas.List.{get_or-map, get_or-take, length-append, take_more_set}
+use Rattle.std.specs.List.{position_from}
+use Rattle.std.proofs.lemmas.Iterator.Adapters.{position_from-zero}
+use Rattle.std.proofs.lemmas.Bool.{and_from, cond-true, cond-false, ne_eqb, le-leb, lt-ltb}
 use Rattle.bundle.specs.Bids.{Bid, Bids}
-use Rattle.bundle.specs.Units.{place, bundles, less, within, Within}
-use Rattle.bundle.proofs.Bundles.{bundle_at-last, bundles_pos, less-within, place_below, within_trans, within-true}
+use Rattle.bundle.specs.Units.{place, bundles, less, Within}
+use Rattle.bundle.proofs.Bundles.{bundle_at-last, bundles_pos, place_below}
 use Rattle.sheets.specs.Sheets.{bid_of, bids_of}
 use Rattle.sheets.specs.declared.parts.Line.{Line}
 use Rattle.sheets.specs.declared.parts.Sheet.{Sheet}
@@ -15,41 +18,43 @@ use Rattle.vcg.specs.Auction.{Auction, no_bid, chosen}
 use Rattle.vcg.specs.Optimum.{optimum, best_worth, makes, first_among, pick, award}
 use Rattle.vcg.proofs.Alike.{pick_like}
 
--- what is left of a bundle within the supply has a place
-pub left_below : (s x y w : List ℕ) → within x s ≡ true → y ≡ less x w → place s y < bundles s
-left_below s x y w held is = rw is (place_below s (less x w) (within_trans (less x w) x s (less-within x w) (within-true x s held)))
+-- the number of a line at a place, and 0 for none
+abbrev pub number_of : Option ℕ → ℕ
+number_of None = 0
+number_of (Some k) = k + 1
 
--- the search for the first line that makes t: one line more, and its end
-module _ (rest : List ℕ → ℕ) (x : List ℕ) (t : ℕ) (ls : List Line) (k : ℕ) where
-  search_step : (d : Line) → k < length ls → d ≡ get_or ls k d
-      → first_among rest x t (map bid_of (drop k ls)) (k + 1) ≡ cond (makes rest x t (bid_of d)) (k + 1) (first_among rest x t (map bid_of (drop (k + 1) ls)) (k + 1 + 1))
+module _ (rest : List ℕ → ℕ) (x : List ℕ) (t : ℕ) where
+  abbrev pub made_by : Line → Bool
+  made_by l = makes rest x t (bid_of l)
+
+  numbered : (ls : List Line) (n : ℕ) → number_of (position_from made_by n ls) ≡ first_among rest x t (map bid_of ls) (n + 1)
   unfolding first_among
-  search_step d h is = rw (drop_more ls k d h, ← is, add-one (k + 1))
+  numbered [] n = refl
+  numbered (l ∷ ls) n =
+      let later = numbered ls (n + 1) ∙ ap (first_among rest x t (map bid_of ls)) (add-one (n + 1)) in
+      elim (makes rest x t (bid_of l)) as (λ b. number_of (cond b (Some n) (position_from made_by (n + 1) ls)) ≡ cond b (n + 1) (first_among rest x t (map bid_of ls) (suc (n + 1)))) [
+        | true ↦ refl
+        | false ↦ later
+      ]
 
-  pub search_found : (d : Line) → k < length ls → d ≡ get_or ls k d → true ≡ makes rest x t (bid_of d) → first_among rest x t (map bid_of (drop k ls)) (k + 1) ≡ k + 1
-  search_found d h is made = search_step d h is ∙ rw (← made)
-
-  pub search_missed : (d : Line) → k < length ls → d ≡ get_or ls k d → false ≡ makes rest x t (bid_of d)
-      → first_among rest x t (map bid_of (drop k ls)) (k + 1) ≡ first_among rest x t (map bid_of (drop (k + 1) ls)) (k + 1 + 1)
-  search_missed d h is made = search_step d h is ∙ rw (← made)
-
-  pub search_end : length ls ≤ k → first_among rest x t (map bid_of (drop k ls)) (k + 1) ≡ 0
-  unfolding first_among
-  search_end h = rw (drop_all k ls h)
+  -- the first line that makes t, where t is not made without it
+  pub picked_line : (b : Bids) (ls : List Line) (o : Option ℕ) → map bid_of ls ≡ b → (rest x ≡ t → ⊥) → o ≡ position made_by ls → number_of o ≡ pick rest x t b
+  unfolding pick
+  picked_line b ls o same other is =
+      ap number_of (is ∙ position_from-zero made_by ls) ∙ numbered ls 0 ∙ ap (λ (c : Bids). first_among rest x t c 1) same ∙ sym (cond-false _ _ _ (ne_eqb (rest x) t other))
 
 -- the line that a choice names
-pub chosen_none : (b : Bids) (ls : List Line) (n : ℕ) → map bid_of ls ≡ b → (n ≡ 0) ⊎ (length ls < n) → chosen b n ≡ no_bid
+pub chosen_none : (b : Bids) (n : ℕ) → (1 ≤ n → ⊥) → chosen b n ≡ no_bid
 unfolding chosen
-chosen_none b ls zero is h = refl
-chosen_none b ls (suc k) is (inl h) = absurd (omega arith)
-chosen_none b ls (suc k) is (inr h) = get_or_past b k no_bid (omega (arith, length-map ls bid_of, ap length is))
+chosen_none b zero h = refl
+chosen_none b (suc k) h = absurd (h (omega arith))
 
-pub chosen-line : (b : Bids) (ls : List Line) (n : ℕ) (d : Line) → map bid_of ls ≡ b → (n ≡ 0 → ⊥) → n ≤ length ls → bid_of (get_or ls (n - 1) d) ≡ chosen b n
+pub chosen_at : (b : Bids) (ls : List Line) (n k : ℕ) (d : Line) → map bid_of ls ≡ b → 1 ≤ n → k ≡ n - 1 → bid_of d ≡ no_bid → bid_of (get_or ls k d) ≡ chosen b n
 unfolding chosen
-chosen-line b ls zero d is h l = absurd (h refl)
-chosen-line b ls (suc k) d is h l =
-    let spot : suc k - 1 ≡ k = omega arith in
-    ap (λ j. bid_of (get_or ls j d)) spot ∙ sym (get_or-map bid_of ls k d no_bid (omega arith)) ∙ ap (λ (c : Bids). get_or c k no_bid) is
+chosen_at b ls zero k d same h is none = absurd (omega arith)
+chosen_at b ls (suc j) k d same h is none =
+    let spot : k ≡ j = omega arith in
+    sym (get_or-map_own bid_of ls k d) ∙ (λ i. get_or (same i) (spot i) (none i))
 
 -- what a farm stated for the line that it gets
 pub stated-is : (sheets : List Sheet) (w award : List ℕ) (k : ℕ) (sheet : Sheet) (l : Line) → k < length sheets → sheet ≡ get_or sheets k sheet → w ≡ award

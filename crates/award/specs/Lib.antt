@@ -1,4 +1,3 @@
 pub mod Deciding
 pub mod Promises
-pub mod Rows
 pub mod Samples

@@ -10,7 +10,7 @@ use crate::choosing::choose_all;
 use crate::refusals::AwardRefusal;
 use bundle::{Reserve, Supply};
 use sheets::Sheet;
-use table::{MAX_FARMS, fill_with_marginals};
+use table::{Auction, fill_with_marginals};
 
 // Fills the table, writes the first best choice and what each farm pays, and answers what the choice is worth;
 // refused, with no change, where there are more than 48 farms or one of the lent rows has not the length it needs.
@@ -27,23 +27,14 @@ pub fn decide(
     ensures award { award.new ≡ (if is_ok result then (outcome_of (auction_of supply.now reserve.now sheets.now)).choice else award.old) }
     ensures charges { charges.new ≡ (if is_ok result then (outcome_of (auction_of supply.now reserve.now sheets.now)).charge else charges.old) }
 {
-    let farms = sheets.len();
-    if farms > MAX_FARMS {
-        return Err(AwardRefusal::Farms);
-    }
-    let row = supply.bundles();
-    if table.len() < (farms + 1) * row {
-        return Err(AwardRefusal::Table);
-    }
-    if award.len() != farms {
+    let auction = Auction::new(supply, reserve, sheets)?;
+    auction.check_room(table)?;
+    if award.len() != sheets.len() {
         return Err(AwardRefusal::Award);
     }
-    // Only the row for the charges can still be wrong.
-    let Ok(()) = fill_with_marginals(supply, reserve, sheets, table, charges) else {
-        return Err(AwardRefusal::Charges);
-    };
-    let worth = table[row - 1];
-    choose_all(supply, reserve, sheets, table, award);
-    charge_all(supply, reserve, sheets, award, worth, charges);
+    fill_with_marginals(supply, reserve, sheets, table, charges)?;
+    let worth = table[supply.bundles() - 1];
+    choose_all(&auction, table, award);
+    charge_all(&auction, award, worth, charges);
     Ok(worth)
 }

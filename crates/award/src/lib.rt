@@ -6,6 +6,7 @@ mod choosing;
 mod deciding;
 mod refusals;
 mod theorems;
+mod turns;
 
 pub use deciding::decide;
 pub use refusals::AwardRefusal;

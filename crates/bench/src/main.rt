@@ -4,7 +4,7 @@
 mod random;
 mod sales;
 
-use sales::{FARMS, LargeSale, TABLE_LENGTH};
+use sales::{FARMS, LargeSale, SALES, TABLE_LENGTH};
 use std::env;
 use std::process::ExitCode;
 use std::time::{Duration, Instant};
@@ -28,92 +28,66 @@ of bundles, the worth of the best choice, and the sum of the worths without each
 
 const ROUNDS: u32 = 5;
 
-fn twelve_lots(rt: &HostRuntime) -> anyhow::Result<LargeSale> {
-    let prices = [10, 20, 30, 40, 50, 60, 70, 80, 90, 100, 110, 120];
-    LargeSale::new(rt.alloc(), "12 lots of 1 unit", &[1; 12], &prices)
-}
-
-fn three_lots(rt: &HostRuntime) -> anyhow::Result<LargeSale> {
-    LargeSale::new(rt.alloc(), "3 lots of 15 units", &[15; 3], &[10, 20, 30])
-}
-
-fn fill_time(rt: &HostRuntime, sale: &LargeSale, table: &mut [u64]) -> anyhow::Result<Duration> {
-    let start = Instant::now(rt)?;
-    for _ in 0..ROUNDS {
-        sale.fill(table)?;
-    }
-    Ok(start.elapsed(rt)? / ROUNDS)
-}
-
-fn marginals_time(
+fn for_each_sale<F: Fn(&str, &LargeSale) -> anyhow::Result<()>>(
     rt: &HostRuntime,
-    sale: &LargeSale,
-    table: &mut [u64],
-    without: &mut [u64],
-) -> anyhow::Result<Duration> {
+    show: F,
+) -> anyhow::Result<ExitCode>
+    requires { F.IsAlwaysCallable show }
+{
+    for terms in &SALES {
+        let sale = LargeSale::new(rt.alloc(), terms)?;
+        show(terms.name, &sale)?;
+    }
+    Ok(ExitCode::SUCCESS)
+}
+
+// How long a run takes, on average over the rounds.
+fn time<F: FnMut() -> anyhow::Result<()>>(rt: &HostRuntime, mut run: F) -> anyhow::Result<Duration>
+    requires { F.IsAlwaysCallable run }
+{
     let start = Instant::now(rt)?;
     for _ in 0..ROUNDS {
-        sale.fill_with_marginals(table, without)?;
+        run()?;
     }
     Ok(start.elapsed(rt)? / ROUNDS)
 }
 
-fn measure_sale(rt: &HostRuntime, sale: &LargeSale) -> anyhow::Result<()> {
-    let name = sale.name;
+fn measure(rt: &HostRuntime, name: &str, sale: &LargeSale) -> anyhow::Result<()> {
     let mut table = vec![in rt.alloc(); 0u64; TABLE_LENGTH]?;
     let mut without = vec![in rt.alloc(); 0u64; FARMS]?;
-    let filling = fill_time(rt, sale, &mut table)?.as_micros();
+    let filling = time(rt, || sale.fill(&mut table))?.as_micros();
     println!(rt; "{name}: fill {filling} us")?;
-    let marginals = marginals_time(rt, sale, &mut table, &mut without)?.as_micros();
+    let marginals = time(rt, || sale.fill_with_marginals(&mut table, &mut without))?.as_micros();
     println!(rt; "{name}: fill with marginals {marginals} us")?;
     Ok(())
 }
 
-fn measure(rt: &HostRuntime) -> anyhow::Result<ExitCode> {
-    measure_sale(rt, &twelve_lots(rt)?)?;
-    measure_sale(rt, &three_lots(rt)?)?;
-    Ok(ExitCode::SUCCESS)
-}
-
-fn sum(worths: &[u64]) -> u64 {
-    let mut total = 0u64;
-    for worth in worths {
-        total = total.saturating_add(*worth);
-    }
-    total
-}
-
-fn check_sale(rt: &HostRuntime, sale: &LargeSale) -> anyhow::Result<()> {
-    let name = sale.name;
+fn check(rt: &HostRuntime, name: &str, sale: &LargeSale) -> anyhow::Result<()> {
     let bundles = sale.bundles();
     let mut table = vec![in rt.alloc(); 0u64; TABLE_LENGTH]?;
     let mut without = vec![in rt.alloc(); 0u64; FARMS]?;
     sale.fill(&mut table)?;
     let worth = sale.best_worth(&table);
     sale.fill_with_marginals(&mut table, &mut without)?;
-    let marginals = sum(&without);
+    let marginals = without
+        .iter()
+        .fold(0u64, |total, worth| total.saturating_add(*worth));
     println!(rt; "{name}: {bundles} bundles, worth {worth}, without each farm {marginals}")?;
     Ok(())
-}
-
-fn check(rt: &HostRuntime) -> anyhow::Result<ExitCode> {
-    check_sale(rt, &twelve_lots(rt)?)?;
-    check_sale(rt, &three_lots(rt)?)?;
-    Ok(ExitCode::SUCCESS)
 }
 
 fn main(rt: HostRuntime) -> anyhow::Result<ExitCode> {
     let mut args = env::args(&rt)?;
     let _program = args.next();
     let Some(word) = args.next() else {
-        return measure(&rt);
+        return for_each_sale(&rt, |name, sale| measure(&rt, name, sale));
     };
     if args.next().is_some() {
         eprintln!(rt; "bench: one argument at most\n{USAGE}")?;
         return Ok(ExitCode::FAILURE);
     }
     match word.as_str() {
-        "--check" => check(&rt),
+        "--check" => for_each_sale(&rt, |name, sale| check(&rt, name, sale)),
         "--help" => {
             print!(rt; "{HELP}")?;
             Ok(ExitCode::SUCCESS)

@@ -13,9 +13,28 @@ const LINES: usize = 32;
 // A row of 4,096 entries for each farm, and one for the reserve.
 pub const TABLE_LENGTH: usize = (FARMS + 1) * 4096;
 
+// What a sale is made of, but for its sheets.
+pub struct Terms {
+    pub name: &'static str,
+    units: &'static [u8],
+    prices: &'static [u32],
+}
+
+pub const SALES: [Terms; 2] = [
+    Terms {
+        name: "12 lots of 1 unit",
+        units: &[1; 12],
+        prices: &[10, 20, 30, 40, 50, 60, 70, 80, 90, 100, 110, 120],
+    },
+    Terms {
+        name: "3 lots of 15 units",
+        units: &[15; 3],
+        prices: &[10, 20, 30],
+    },
+];
+
 #[derive(Drop)]
 pub struct LargeSale {
-    pub name: &'static str,
     supply: Supply,
     reserve: Reserve,
     sheets: Vec<Sheet>,
@@ -24,8 +43,8 @@ pub struct LargeSale {
 fn random_units(random: &mut Random, supply: &Supply) -> Bundle {
     let all = supply.units();
     let mut units = Bundle::empty(all.lots());
-    for lot in 0..all.lots() {
-        units = units.with_count(lot, random.count(all.count(lot)));
+    for (lot, most) in all.units().iter().enumerate() {
+        units = units.with_count(lot, random.count(*most));
     }
     units
 }
@@ -57,21 +76,11 @@ fn random_sheets(heap: Global, supply: &Supply) -> Result<Vec<Sheet>, AllocError
 }
 
 impl LargeSale {
-    pub fn new(
-        heap: Global,
-        name: &'static str,
-        units: &[u8],
-        prices: &[u32],
-    ) -> anyhow::Result<LargeSale> {
-        let Ok(supply) = Supply::new(units) else {
-            return Err(anyhow!("the supply is refused"));
-        };
-        let Ok(reserve) = Reserve::new(prices) else {
-            return Err(anyhow!("the reserve is refused"));
-        };
+    pub fn new(heap: Global, terms: &Terms) -> anyhow::Result<LargeSale> {
+        let supply = Supply::new(terms.units).map_err(|_| anyhow!("the supply is refused"))?;
+        let reserve = Reserve::new(terms.prices).map_err(|_| anyhow!("the reserve is refused"))?;
         let sheets = random_sheets(heap, &supply)?;
         Ok(LargeSale {
-            name,
             supply,
             reserve,
             sheets,
@@ -89,10 +98,9 @@ impl LargeSale {
     }
 
     pub fn fill(&self, table: &mut [u64]) -> anyhow::Result<()> {
-        match fill(&self.supply, &self.reserve, &self.sheets, table) {
-            Ok(()) => Ok(()),
-            Err(_) => Err(anyhow!("the table is refused")),
-        }
+        fill(&self.supply, &self.reserve, &self.sheets, table).map_err(|_| anyhow!(
+            "the table is refused"
+        ))
     }
 
     pub fn fill_with_marginals(
@@ -100,9 +108,8 @@ impl LargeSale {
         table: &mut [u64],
         without: &mut [u64],
     ) -> anyhow::Result<()> {
-        match fill_with_marginals(&self.supply, &self.reserve, &self.sheets, table, without) {
-            Ok(()) => Ok(()),
-            Err(_) => Err(anyhow!("the table is refused")),
-        }
+        fill_with_marginals(&self.supply, &self.reserve, &self.sheets, table, without).map_err(
+            |_| anyhow!("the table is refused"),
+        )
     }
 }

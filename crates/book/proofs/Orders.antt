@@ -11,50 +11,44 @@ use Rattle.book.proofs.Steps.{after, after-swap, sender_cases, post-at, post_non
 two_at : (supply : List ℕ) (es : List Entry) (m n : List ℕ) (a b : ℕ) → sender_in (length es) m ≡ Ok a → sender_in (length es) n ≡ Ok b →
     post supply (post supply es m) n ≡ set (set es a (after supply m (get_or es a no_entry))) b (after supply n (get_or (set es a (after supply m (get_or es a no_entry))) b no_entry))
 two_at supply es m n a b d e =
-    ap (λ ks. post supply ks n) (post-at supply es m a d)
-    ∙ post-at supply (set es a (after supply m (get_or es a no_entry))) n b (ap (λ l. sender_in l n) (length-set es a (after supply m (get_or es a no_entry))) ∙ e)
+    rw (post-at supply es m a d) (post-at supply (set es a (after supply m (get_or es a no_entry))) n b (rw (length-set es a (after supply m (get_or es a no_entry))) e))
 
 -- of different farms
 apart : (supply : List ℕ) (es : List Entry) (m n : List ℕ) (a b : ℕ) → (b ≡ a → ⊥) → sender_in (length es) m ≡ Ok a → sender_in (length es) n ≡ Ok b →
     post supply (post supply es m) n ≡ set (set es a (after supply m (get_or es a no_entry))) b (after supply n (get_or es b no_entry))
 apart supply es m n a b ne d e =
-    two_at supply es m n a b d e
-    ∙ ap (λ h. set (set es a (after supply m (get_or es a no_entry))) b (after supply n h)) (get_or-set_other es a b (after supply m (get_or es a no_entry)) no_entry ne)
+    rw (two_at supply es m n a b d e, get_or-set_other es a b (after supply m (get_or es a no_entry)) no_entry ne) refl
 
 -- of one farm
 beside : (supply : List ℕ) (es : List Entry) (m n : List ℕ) (a : ℕ) → a < length es → sender_in (length es) m ≡ Ok a → sender_in (length es) n ≡ Ok a →
     post supply (post supply es m) n ≡ set es a (after supply n (after supply m (get_or es a no_entry)))
 beside supply es m n a g d e =
-    two_at supply es m n a a d e
-    ∙ set-set es a (after supply m (get_or es a no_entry)) (after supply n (get_or (set es a (after supply m (get_or es a no_entry))) a no_entry))
-    ∙ ap (λ h. set es a (after supply n h)) (get_or-set_same es a (after supply m (get_or es a no_entry)) no_entry g)
+    rw (two_at supply es m n a a d e, set-set, get_or-set_same es a (after supply m (get_or es a no_entry)) no_entry g) refl
 
 swap-posts : (supply : List ℕ) (es : List Entry) (m n : List ℕ) →
     (6 ≤ length m → 6 ≤ length n → get_or m 0 0 ≡ get_or n 0 0 → u32_at m 1 ≡ u32_at n 1 → m ≡ n) →
     post supply (post supply es m) n ≡ post supply (post supply es n) m
 swap-posts supply es m n one =
+    let a = get_or m 0 0 in
+    let b = get_or n 0 0 in
     ⊎_elim
     (λ s.
     ⊎_elim
     (λ t.
     ⊎_elim
     (λ e.
-    let f : sender_in (length es) n ≡ Ok (get_or m 0 0) = t.2 ∙ ap (λ a. Ok a) (sym e) in
-    beside supply es m n (get_or m 0 0) s.1 s.2 f
-    ∙ ap (set es (get_or m 0 0)) (after-swap supply m n (get_or es (get_or m 0 0) no_entry) (one s.0 t.0 e))
-    ∙ sym (beside supply es n m (get_or m 0 0) s.1 f s.2))
+    let f : sender_in (length es) n ≡ Ok a = t.2 ∙ ap (λ k. Ok k) (sym e) in
+    beside supply es m n a s.1 s.2 f
+    ∙ ap (set es a) (after-swap supply m n (get_or es a no_entry) (one s.0 t.0 e))
+    ∙ sym (beside supply es n m a s.1 f s.2))
     (λ ne.
-    apart supply es m n (get_or m 0 0) (get_or n 0 0) (λ e. ne (sym e)) s.2 t.2
-    ∙ set_comm es (get_or m 0 0) (get_or n 0 0) (after supply m (get_or es (get_or m 0 0) no_entry)) (after supply n (get_or es (get_or n 0 0) no_entry)) ne
-    ∙ sym (apart supply es n m (get_or n 0 0) (get_or m 0 0) ne t.2 s.2))
-    (cases_eq (get_or m 0 0) (get_or n 0 0)))
-    (λ t.
-    post_none supply (post supply es m) n t.0 (ap (λ l. sender_in l n) (length-post supply es m) ∙ t.1)
-    ∙ ap (λ ks. post supply ks m) (sym (post_none supply es n t.0 t.1)))
+    apart supply es m n a b (λ e. ne (sym e)) s.2 t.2
+    ∙ set_comm es a b (after supply m (get_or es a no_entry)) (after supply n (get_or es b no_entry)) ne
+    ∙ sym (apart supply es n m b a ne t.2 s.2))
+    (cases_eq a b))
+    (λ t. rw (post_none supply es n t.0 t.1) (post_none supply (post supply es m) n t.0 (rw (length-post supply es m) t.1)))
     (sender_cases (length es) n))
-    (λ s.
-    ap (λ ks. post supply ks n) (post_none supply es m s.0 s.1)
-    ∙ sym (post_none supply (post supply es n) m s.0 (ap (λ l. sender_in l m) (length-post supply es n) ∙ s.1)))
+    (λ s. rw (post_none supply es m s.0 s.1) (sym (post_none supply (post supply es n) m s.0 (rw (length-post supply es n) s.1))))
     (sender_cases (length es) m)
 
 -- what is among the shuffled messages was among them before

@@ -1,24 +1,19 @@
 -- One message. Assumes nothing.
-use Rattle.std.proofs.Common.{◌≡◌, ℕ, zero, suc, ◌<◌, ◌≤◌, Bool, true, false, cond, ltb, ◌⊎◌, List, [], ◌∷◌, length, get_or, set, Ok, Err, Result, sym, refl, ap, ◌∙◌, inl, inr, ⊎_elim, arith}
+use Rattle.std.proofs.Common.{◌≡◌, ℕ, suc, ◌<◌, ◌≤◌, Bool, true, false, cond, ltb, ◌⊎◌, List, [], ◌∷◌, length, get_or, set, Ok, Err, Result, sym, refl, ap, ◌∙◌, inl, inr, ⊎_elim, arith}
+use Rattle.std.proofs.Math.ListN.{get_or-map}
 use Rattle.std.proofs.lemmas.List.{length-map, length-set, get_or-set_other, map-set, set-get_or}
-use Rattle.std.proofs.lemmas.Bool.{lt-ltb, le-ltb, cond-true, cond-false, cases_lt, cases_order, eqb-true, eqb-false}
+use Rattle.std.proofs.lemmas.Bool.{cases_lt, eqb-true, eqb-false}
+use Rattle.std.proofs.lemmas.Bool.Decides.{nat_tests}
 use Rattle.bundle.specs.Bids.{Bids}
 use Rattle.sheets.specs.declared.refusals.MessageRefusal.{MessageRefusal}
 use Rattle.sheets.specs.declared.refusals.MessageRefusal.TheVariants.{Short, NoFarm, OldNumber}
 use Rattle.bundle.specs.Checks.{and_then}
 use Rattle.sheets.specs.Reading.{Submission, u32_at, sender_in, sheet_in, submission_in}
-use Rattle.book.specs.Posting.{Entry, no_entry, accounts_of, numbers_of, read_for, put, post, posts, names, answers}
+use Rattle.book.specs.Posting.{Entry, no_entry, accounts_of, read_for, put, post, posts, names, answers}
 
 -- the account of a place, also where there is none
 pub account-at : (es : List Entry) (i : ℕ) → get_or (accounts_of es) i 0 ≡ (get_or es i no_entry).account
-account-at [] i = refl
-account-at (e ∷ es) zero = refl
-account-at (e ∷ es) (suc i) = account-at es i
-
-pub number_at : (es : List Entry) (i : ℕ) → get_or (numbers_of es) i 0 ≡ (get_or es i no_entry).number
-number_at [] i = refl
-number_at (e ∷ es) zero = refl
-number_at (e ∷ es) (suc i) = number_at es i
+account-at es i = get_or-map (λ (e : Entry). e.account) es i no_entry
 
 -- a message of one of f farms, of which entry_of has the entries
 abbrev pub read_by : List ℕ → ℕ → (ℕ → Entry) → List ℕ → Result Submission MessageRefusal
@@ -26,7 +21,7 @@ read_by supply f entry_of m = and_then (sender_in f m) (λ farm. submission_in s
 
 pub read_is : (supply : List ℕ) (es : List Entry) (m : List ℕ) → read_for supply es m ≡ read_by supply (length es) (λ farm. get_or es farm no_entry) m
 read_is supply es m =
-    λ j. and_then (sender_in (length-map es (λ (e : Entry). e.account) j) m) (λ farm. submission_in supply farm (account-at es farm j) (number_at es farm j) m)
+    λ j. and_then (sender_in (length-map es (λ (e : Entry). e.account) j) m) (λ farm. submission_in supply farm (account-at es farm j) (get_or-map (λ (e : Entry). e.number) es farm no_entry j) m)
 
 -- an entry under a number and bids, where the bids were read
 abbrev pub under : Entry → ℕ → Result Bids MessageRefusal → Entry
@@ -41,46 +36,16 @@ renew x r h = cond (ltb h.number x) (under h x r) h
 abbrev pub after : List ℕ → List ℕ → Entry → Entry
 after supply m h = renew (u32_at m 1) (sheet_in supply h.account m) h
 
-old : (x : ℕ) (r : Result Bids MessageRefusal) (h : Entry) → x ≤ h.number → renew x r h ≡ h
-old x r h g = cond-false _ _ _ (le-ltb h.number x g)
-
-new : (x : ℕ) (r : Result Bids MessageRefusal) (h : Entry) → h.number < x → renew x r h ≡ under h x r
-new x r h g = cond-true _ _ _ (lt-ltb h.number x g)
-
-bad : (x : ℕ) (e : MessageRefusal) (h : Entry) → renew x (Err e) h ≡ h
-bad x e h = ⊎_elim (new x (Err e) h) (old x (Err e) h) (cases_lt h.number x)
-
--- a message under a lower number changes nothing after one under a higher
-low_last : (x y : ℕ) (r : Result Bids MessageRefusal) (ls : Bids) (h : Entry) → x < y → renew x r (renew y (Ok ls) h) ≡ renew y (Ok ls) h
-low_last x y r ls h g =
-    ⊎_elim
-    (λ l. let e = new y (Ok ls) h l in let z : x ≤ y = omega arith in ap (renew x r) e ∙ old x r (under h y (Ok ls)) z ∙ sym e)
-    (λ l. let e = old y (Ok ls) h l in let z : x ≤ h.number = omega arith in ap (renew x r) e ∙ old x r h z ∙ sym e)
-    (cases_lt h.number y)
-
--- and leaves no trace before it
-low_first : (x y : ℕ) (ks ls : Bids) (h : Entry) → x < y → renew y (Ok ls) (renew x (Ok ks) h) ≡ renew y (Ok ls) h
-low_first x y ks ls h g =
-    ⊎_elim
-    (λ l. let z : h.number < y = omega arith in ap (renew y (Ok ls)) (new x (Ok ks) h l) ∙ new y (Ok ls) (under h x (Ok ks)) g ∙ sym (new y (Ok ls) h z))
-    (λ l. ap (renew y (Ok ls)) (old x (Ok ks) h l))
-    (cases_lt h.number x)
-
 renew_swap : (x y : ℕ) (q r : Result Bids MessageRefusal) (h : Entry) → (x ≡ y → q ≡ r) → renew y r (renew x q h) ≡ renew x q (renew y r h)
-renew_swap x y (Err e) r h same = ap (renew y r) (bad x e h) ∙ sym (bad x e (renew y r h))
-renew_swap x y (Ok ks) (Err e) h same = bad y e (renew x (Ok ks) h) ∙ ap (renew x (Ok ks)) (sym (bad y e h))
-renew_swap x y (Ok ks) (Ok ls) h same =
-    ⊎_elim
-    (λ e. let s = same e in λ i. renew (sym e i) (sym s i) (renew (e i) (s i) h))
-    (⊎_elim
-    (λ g. low_first x y ks ls h g ∙ sym (low_last x y (Ok ks) ls h g))
-    (λ g. low_last y x (Ok ls) ks h g ∙ sym (low_first y x ls ks h g)))
-    (cases_order x y)
+renew_swap x y (Err e) (Err d) h same = grind (arith, nat_tests)
+renew_swap x y (Err e) (Ok ls) h same = grind (arith, nat_tests)
+renew_swap x y (Ok ks) (Err e) h same = grind (arith, nat_tests)
+renew_swap x y (Ok ks) (Ok ls) h same = grind (arith, nat_tests)
 
 -- a message leaves the account as it is
 account_kept : (x : ℕ) (r : Result Bids MessageRefusal) (h : Entry) → (renew x r h).account ≡ h.account
-account_kept x (Ok ls) h = ⊎_elim (λ l. ap (λ k. k.account) (new x (Ok ls) h l)) (λ l. ap (λ k. k.account) (old x (Ok ls) h l)) (cases_lt h.number x)
-account_kept x (Err e) h = ap (λ k. k.account) (bad x e h)
+account_kept x (Ok ls) h = grind (arith, nat_tests)
+account_kept x (Err e) h = grind (arith, nat_tests)
 
 -- two messages of one farm, in either order
 pub after-swap : (supply m n : List ℕ) (h : Entry) → (u32_at m 1 ≡ u32_at n 1 → m ≡ n) → after supply n (after supply m h) ≡ after supply m (after supply n h)
@@ -101,33 +66,29 @@ put_from es farm x false r = sym (set-get_or es farm no_entry)
 pub sender_cases : (f : ℕ) (m : List ℕ) → ((6 ≤ length m) × (get_or m 0 0 < f) × (sender_in f m ≡ Ok (get_or m 0 0))) ⊎ ((e : MessageRefusal) × (sender_in f m ≡ Err e))
 sender_cases f m =
     ⊎_elim
-    (λ short. inr (Short (length m), cond-true _ _ _ (lt-ltb (length m) 6 short)))
+    (λ short. inr (Short (length m), grind (arith, nat_tests)))
     (λ long.
-    let first : sender_in f m ≡ cond (ltb (get_or m 0 0) f) (Ok (get_or m 0 0)) (Err (NoFarm 0)) = cond-false _ _ _ (le-ltb (length m) 6 long) in
     ⊎_elim
-    (λ g. inl (long, g, first ∙ cond-true _ _ _ (lt-ltb (get_or m 0 0) f g)))
-    (λ g. inr (NoFarm 0, first ∙ cond-false _ _ _ (le-ltb (get_or m 0 0) f g)))
+    (λ g. inl (long, g, grind (arith, nat_tests)))
+    (λ g. inr (NoFarm 0, grind (arith, nat_tests)))
     (cases_lt (get_or m 0 0) f))
     (cases_lt (length m) 6)
 
 -- a message with a sender changes that farm's place at most
 pub post-at : (supply : List ℕ) (es : List Entry) (m : List ℕ) (a : ℕ) → sender_in (length es) m ≡ Ok a → post supply es m ≡ set es a (after supply m (get_or es a no_entry))
 post-at supply es m a e =
-    ap (put es) (read_is supply es m)
-    ∙ ap (λ r. put es (and_then r (λ farm. submission_in supply farm (get_or es farm no_entry).account (get_or es farm no_entry).number m))) e
-    ∙ put_from es a (u32_at m 1) (ltb (get_or es a no_entry).number (u32_at m 1)) (sheet_in supply (get_or es a no_entry).account m)
+    rw (read_is supply es m, e)
+    (put_from es a (u32_at m 1) (ltb (get_or es a no_entry).number (u32_at m 1)) (sheet_in supply (get_or es a no_entry).account m))
 
 -- a message without a sender changes nothing
 pub post_none : (supply : List ℕ) (es : List Entry) (m : List ℕ) (e : MessageRefusal) → sender_in (length es) m ≡ Err e → post supply es m ≡ es
-post_none supply es m e h =
-    ap (put es) (read_is supply es m)
-    ∙ ap (λ r. put es (and_then r (λ farm. submission_in supply farm (get_or es farm no_entry).account (get_or es farm no_entry).number m))) h
+post_none supply es m e h = rw (read_is supply es m, h) refl
 
 pub length-post : (supply : List ℕ) (es : List Entry) (m : List ℕ) → length (post supply es m) ≡ length es
 length-post supply es m =
     ⊎_elim
-    (λ s. ap length (post-at supply es m (get_or m 0 0) s.2) ∙ length-set es (get_or m 0 0) (after supply m (get_or es (get_or m 0 0) no_entry)))
-    (λ s. ap length (post_none supply es m s.0 s.1))
+    (λ s. rw (post-at supply es m (get_or m 0 0) s.2) (length-set es (get_or m 0 0) (after supply m (get_or es (get_or m 0 0) no_entry))))
+    (λ s. rw (post_none supply es m s.0 s.1) refl)
     (sender_cases (length es) m)
 
 pub length-posts : (supply : List ℕ) (es : List Entry) (ms : List (List ℕ)) → length (posts supply es ms) ≡ length es
@@ -157,9 +118,9 @@ pub post_other : (supply : List ℕ) (es : List Entry) (i : ℕ) (m : List ℕ) 
 post_other supply es i m e =
     ⊎_elim
     (λ s.
-    ap (λ ks. get_or ks i no_entry) (post-at supply es m (get_or m 0 0) s.2)
-    ∙ get_or-set_other es (get_or m 0 0) i (after supply m (get_or es (get_or m 0 0) no_entry)) no_entry (λ z. unnamed i m e s.0 (sym z)))
-    (λ s. ap (λ ks. get_or ks i no_entry) (post_none supply es m s.0 s.1))
+    rw (post-at supply es m (get_or m 0 0) s.2)
+    (get_or-set_other es (get_or m 0 0) i (after supply m (get_or es (get_or m 0 0) no_entry)) no_entry (λ z. unnamed i m e s.0 (sym z))))
+    (λ s. rw (post_none supply es m s.0 s.1) refl)
     (sender_cases (length es) m)
 
 pub length-answers : (supply : List ℕ) (es : List Entry) (ms : List (List ℕ)) → length (answers supply es ms) ≡ length ms

@@ -2,10 +2,8 @@
 use Rattle.std.proofs.Common.{◌≡◌, ℕ, ◌<◌, Bool, true, false, cond, List, [], ◌∷◌, length, get_or, Ok, Err, Result, sym, refl, ap, ◌∙◌, ⊎_elim, arith}
 use Rattle.std.proofs.lemmas.List.{get_or-set_same}
 use Rattle.sheets.specs.declared.refusals.MessageRefusal.{MessageRefusal}
-use Rattle.bundle.specs.Checks.{and_then}
-use Rattle.sheets.specs.Reading.{Submission, sender_in, submission_in}
-use Rattle.book.specs.declared.answers.Answer.{Answer}
-use Rattle.book.specs.Posting.{Entry, no_entry, read_for, post, posts, answer_of, names, own, told}
+use Rattle.sheets.specs.Reading.{Submission, sender_in}
+use Rattle.book.specs.Posting.{Entry, no_entry, read_for, post, posts, Reply, answer_of, names, own, told}
 use Rattle.book.specs.Promises.{ToldOwn, PlaceOwn}
 use Rattle.book.proofs.Steps.{read_by, read_is, after, sender_cases, post-at, post_none, length-post, named, post_other}
 
@@ -27,7 +25,7 @@ hold supply f h [] = h
 hold supply f h (m ∷ ms) = hold supply f (next supply f h m) ms
 
 -- what it is told, from the same
-abbrev pub tell : List ℕ → ℕ → Entry → List (List ℕ) → List Answer
+abbrev pub tell : List ℕ → ℕ → Entry → List (List ℕ) → List Reply
 tell supply f h [] = []
 tell supply f h (m ∷ ms) = answer_of (mine supply f h m) ∷ tell supply f (next supply f h m) ms
 
@@ -35,29 +33,18 @@ read_own : (supply : List ℕ) (es : List Entry) (i : ℕ) (m : List ℕ) → na
 read_own supply es i m e =
     read_is supply es m
     ∙ ⊎_elim
-    (λ s.
-    let is = named i m e s.0 in
-    ap (λ r. and_then r (λ farm. submission_in supply farm (get_or es farm no_entry).account (get_or es farm no_entry).number m)) s.2
-    ∙ ap (λ a. submission_in supply (get_or m 0 0) (get_or es a no_entry).account (get_or es a no_entry).number m) is
-    ∙ sym (ap (λ r. and_then r (λ farm. submission_in supply farm (get_or es i no_entry).account (get_or es i no_entry).number m)) s.2))
-    (λ s.
-    ap (λ r. and_then r (λ farm. submission_in supply farm (get_or es farm no_entry).account (get_or es farm no_entry).number m)) s.1
-    ∙ sym (ap (λ r. and_then r (λ farm. submission_in supply farm (get_or es i no_entry).account (get_or es i no_entry).number m)) s.1))
+    (λ s. let is = named i m e s.0 in rw (s.2, is) refl)
+    (λ s. rw s.1 refl)
     (sender_cases (length es) m)
 
 post-own : (supply : List ℕ) (es : List Entry) (i : ℕ) (m : List ℕ) → names i m ≡ true → get_or (post supply es m) i no_entry ≡ next supply (length es) (get_or es i no_entry) m
 post-own supply es i m e =
     ⊎_elim
     (λ s.
-    let is = named i m e s.0 in
-    let d : sender_in (length es) m ≡ Ok i = s.2 ∙ ap (λ a. Ok a) is in
-    let g : i < length es = omega arith in
-    ap (λ ks. get_or ks i no_entry) (post-at supply es m i d)
-    ∙ get_or-set_same es i (after supply m (get_or es i no_entry)) no_entry g
-    ∙ sym (ap (kept_or (get_or es i no_entry) (after supply m (get_or es i no_entry))) d))
-    (λ s.
-    ap (λ ks. get_or ks i no_entry) (post_none supply es m s.0 s.1)
-    ∙ sym (ap (kept_or (get_or es i no_entry) (after supply m (get_or es i no_entry))) s.1))
+    let d : sender_in (length es) m ≡ Ok i = s.2 ∙ ap (λ a. Ok a) (named i m e s.0) in
+    let g : i < length es = omega (arith, named i m e s.0) in
+    rw (post-at supply es m i d, get_or-set_same es i (after supply m (get_or es i no_entry)) no_entry g, d) refl)
+    (λ s. rw (post_none supply es m s.0 s.1, s.1) refl)
     (sender_cases (length es) m)
 
 -- one message more, whether its farm is i or not

@@ -1,10 +1,9 @@
 -- How messages change what the book holds. A message is a list of bytes. Assumes nothing: these are definitions.
 use Rattle.std.specs.Prelude.{ℕ, Bool, false, cond, List, [], ◌∷◌, map, Ok, Err, Result, ◌==◌, slice_index_or, slice_set}
 use Rattle.bundle.specs.Bids.{Bids}
+use Rattle.bundle.specs.Checks.{viewed}
 use Rattle.sheets.specs.declared.refusals.MessageRefusal.{MessageRefusal}
 use Rattle.sheets.specs.Reading.{Submission, read_message}
-use Rattle.book.specs.declared.answers.Answer.{Answer}
-use Rattle.book.specs.declared.answers.Answer.TheVariants.{Taken, Refused}
 
 -- a farm's place in the book: its account, the number of its last taken message, 0 before the first, and the bids of that message
 pub record Entry : Type 0 where
@@ -51,12 +50,15 @@ abbrev pub posts : List ℕ → List Entry → List (List ℕ) → List Entry
 posts supply es [] = es
 posts supply es (m ∷ ms) = posts supply (post supply es m) ms
 
-abbrev pub answer_of : Result Submission MessageRefusal → Answer
-answer_of (Ok s) = Taken
-answer_of (Err e) = Refused e
+-- what a farm is told of a message: that it is taken, or why it is refused
+abbrev pub Reply : Type 0
+Reply = Result (Unit {0}) MessageRefusal
+
+abbrev pub answer_of : Result Submission MessageRefusal → Reply
+answer_of r = viewed (λ (s : Submission). tt) r
 
 -- what is answered to each message
-abbrev pub answers : List ℕ → List Entry → List (List ℕ) → List Answer
+abbrev pub answers : List ℕ → List Entry → List (List ℕ) → List Reply
 answers supply es [] = []
 answers supply es (m ∷ ms) = answer_of (read_for supply es m) ∷ answers supply (post supply es m) ms
 
@@ -71,11 +73,11 @@ own i [] = []
 own i (m ∷ ms) = cond (names i m) (m ∷ own i ms) (own i ms)
 
 -- the answers to the messages of farm i, out of the answers to all
-abbrev pub own_answers : ℕ → List (List ℕ) → List Answer → List Answer
+abbrev pub own_answers : ℕ → List (List ℕ) → List Reply → List Reply
 own_answers i [] rs = []
 own_answers i (m ∷ ms) [] = []
 own_answers i (m ∷ ms) (r ∷ rs) = cond (names i m) (r ∷ own_answers i ms rs) (own_answers i ms rs)
 
 -- what farm i is told
-abbrev pub told : List ℕ → List Entry → ℕ → List (List ℕ) → List Answer
+abbrev pub told : List ℕ → List Entry → ℕ → List (List ℕ) → List Reply
 told supply es i ms = own_answers i ms (answers supply es ms)

@@ -1,8 +1,5 @@
 // What a farm is told of a message.
 use sheets::MessageRefusal;
 
-#[derive(Clone, Copy)]
-pub enum Answer {
-    Taken,
-    Refused(MessageRefusal),
-}
+// `Ok` where the message is taken, and otherwise why it is refused.
+pub type Answer = Result<(), MessageRefusal>;

@@ -5,6 +5,7 @@ mod answers;
 mod posting;
 mod state;
 mod theorems;
+mod views;
 
 pub use answers::Answer;
 pub use state::Book;

@@ -1,10 +1,8 @@
 // The book: opened, and changed by messages.
-ghost use Rattle.std.specs.Prelude.{◌≡◌, ◌<◌, ◌≤◌, ◌||◌, map, length, take, IfSome, if◌then◌else◌, Some, None, nat_eq, nat_lt};
+ghost use Rattle.std.specs.Prelude.{◌≡◌, ◌≤◌, ◌||◌, map, length, take, IfSome, if◌then◌else◌, Some, None, nat_eq, nat_lt};
 ghost use Rattle.std.specs.Option.{option_map};
-ghost use Rattle.bundle.specs.Stocks.{supply_of};
-ghost use Rattle.sheets.specs.Sheets.{bids_of};
-ghost use Rattle.book.specs.Books.{entries_of, book_supply, standing};
-ghost use Rattle.book.specs.Posting.{fresh, accounts_of, numbers_of, bids_in, emptied, read_for, post, answer_of};
+ghost use Rattle.book.specs.Books.{entries_of, book_supply};
+ghost use Rattle.book.specs.Posting.{fresh, numbers_of, emptied, read_for, post, answer_of};
 
 use crate::answers::Answer;
 use crate::state::Book;
@@ -51,49 +49,16 @@ impl Book {
     {
         let accounts = self.accounts();
         let numbers = &self.numbers[0..self.farms];
+        // No `?`: the book is handed back with either answer.
         match read(bytes, &self.supply, accounts, numbers) {
             Ok(message) => {
                 let farm = message.farm as usize;
                 self.numbers[farm] = message.number;
                 self.sheets[farm] = message.sheet;
-                (self, Answer::Taken)
+                (self, Ok(()))
             }
-            Err(refusal) => (self, Answer::Refused(refusal)),
+            Err(refusal) => (self, Err(refusal)),
         }
-    }
-
-    // How many farms have a sheet with at least one line.
-    pub fn standing(&self) -> usize
-        ensures { result ≡ standing (entries_of self.now) }
-    {
-        let mut n = 0;
-        for k in 0..self.farms {
-            if self.sheets[k].lines().len() > 0 {
-                n += 1;
-            }
-        }
-        n
-    }
-
-    // What the sheets are checked against.
-    pub fn supply(&self) -> Supply
-        ensures { supply_of result ≡ book_supply self.now }
-    {
-        self.supply
-    }
-
-    // The accounts of the farms.
-    pub fn accounts(&self) -> &[u64]
-        ensures { result.now ≡ accounts_of (entries_of self.now) }
-    {
-        &self.accounts[0..self.farms]
-    }
-
-    // The sheets of the farms.
-    pub fn sheets(&self) -> &[Sheet]
-        ensures { map bids_of result.now ≡ bids_in (entries_of self.now) }
-    {
-        &self.sheets[0..self.farms]
     }
 
     // The book with these accounts, under the same numbers and with no sheets; as it is where there is not one account for each farm.

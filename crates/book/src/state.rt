@@ -7,7 +7,7 @@ use bundle::Supply;
 use sheets::Sheet;
 
 // The supply that sheets are checked against, and a place for each of at most 48 farms: the first `farms` of each array.
-// Every sheet is allowed for its farm.
+// Every sheet is allowed for its farm. Three arrays, and not one of places: reading and closing take the accounts, numbers and sheets as slices.
 #[derive(Clone, Copy)]
 pub struct Book {
     pub(crate) supply: Supply,

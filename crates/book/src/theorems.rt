@@ -2,36 +2,26 @@
 ghost use Rattle.book.specs.Promises.{OrderFree, ToldOwn, PlaceOwn, StaysAllowed, AlwaysAllowed};
 
 // The order in which messages come does not matter, where no farm sends two under one number.
-pub fn order_free_stands() -> u8
+pub fn order_free_stands()
     ensures { OrderFree }
-{
-    0
-}
+{}
 
 // What a farm is told depends on the terms, its own place with its account, and its own messages, and on nothing that others have or send.
-pub fn told_own_stands() -> u8
+pub fn told_own_stands()
     ensures { ToldOwn }
-{
-    0
-}
+{}
 
 // And so does what stands in its place.
-pub fn place_own_stands() -> u8
+pub fn place_own_stands()
     ensures { PlaceOwn }
-{
-    0
-}
+{}
 
 // Sheets that are allowed for their farms stay so, whatever comes in.
-pub fn stays_allowed_stands() -> u8
+pub fn stays_allowed_stands()
     ensures { StaysAllowed }
-{
-    0
-}
+{}
 
 // So every sheet is allowed for its farm, in a book that was opened with no message yet.
-pub fn always_allowed_stands() -> u8
+pub fn always_allowed_stands()
     ensures { AlwaysAllowed }
-{
-    0
-}
+{}

@@ -1,6 +1,7 @@
 -- A bundle's counts and what they stand for: a count past the last lot is 0. Assumes nothing.
-use Rattle.std.proofs.Common.{◌≡◌, ℕ, zero, suc, ◌+◌, ◌-◌, ◌<◌, ◌≤◌, max, Bool, true, false, cond, ltb, List, [], ◌∷◌, ◌++◌, length, get_or, take, drop, replicate, Some, None, sym, refl, ap, ◌∙◌, ⊎_elim, arith}
-use Rattle.std.proofs.lemmas.List.{length-take-le, get_or-take, get_or_past, ext_get_or, length-append, length-drop, length-replicate, get_or-append_right, drop-replicate, get_or-replicate}
+use Rattle.std.proofs.Common.{◌≡◌, ◌&&◌, fold, leb, ℕ, ◌+◌, ◌-◌, ◌<◌, ◌≤◌, max, Bool, true, false, cond, ltb, List, [], ◌∷◌, length, get_or, take, replicate, Some, None, sym, refl, ◌∙◌, ⊎_elim, arith}
+use Rattle.std.specs.List.{zip}
+use Rattle.std.proofs.lemmas.List.{length-take-le, get_or-take, get_or_past, ext_get_or, get_or-replicate}
 use Rattle.std.proofs.lemmas.Bool.{cases_lt, cases_Bool, ltb-false}
 use Rattle.bundle.specs.Units.{plus, less, Within, within}
 use Rattle.bundle.specs.Bundles.{units_of}
@@ -42,26 +43,6 @@ pub get_or-prices : (r : Reserve) (j : ℕ) → get_or (prices_of r) j 0 ≡ get
 unfolding prices_of
 get_or-prices r j = get_or-front r.prices r.lots (r.long, r.few, r.padded) j
 
-zeros : (k j : ℕ) → get_or {A = ℕ} (replicate k 0) j 0 ≡ 0
-zeros zero j = refl
-zeros (suc k) zero = refl
-zeros (suc k) (suc j) = zeros k j
-
--- us copied over the front of twelve zeros
-pub padded_copy : (us : List ℕ) (n : ℕ) → length us ≡ n → n ≤ 12 → Padded (us ++ drop (n - 0) (replicate 12 0)) n
-padded_copy us n e h =
-    let z : n - 0 ≡ n = omega arith in
-    rw z (
-      omega (arith, length-append us (drop n (replicate 12 0)), length-drop {A = ℕ} n (replicate 12 0), length-replicate {A = ℕ} 12 0),
-      h,
-      λ j g. get_or-append_right us (drop n (replicate 12 0)) n j 0 e g ∙ ap (λ l. get_or l (j - n) 0) (drop-replicate n 12 0) ∙ zeros (12 - n) (j - n),
-    )
-
-pub take_zeros : (n k : ℕ) → n ≤ k → take {A = ℕ} n (replicate k 0) ≡ replicate n 0
-take_zeros zero k h = refl
-take_zeros (suc n) zero h = absurd (omega arith)
-take_zeros (suc n) (suc k) h = ap (λ l. 0 ∷ l) (take_zeros n k (omega arith))
-
 -- what `Bundle::new` made
 pub made_units : (us xs : List ℕ) → Some us ≡ cond (ltb 12 (length xs)) None (Some xs) → (length xs ≤ 12) × (us ≡ xs)
 made_units us xs e = go (ltb 12 (length xs)) refl e
@@ -89,15 +70,31 @@ plus_front zs xs ys n m o p q e =
     (omega (arith, length_front zs (max n m) o, length_front xs n p, length_front ys m q, length-plus_max (take n xs) (take m ys)))
     (λ j h. omega (arith, e j, get_or-front zs (max n m) o j, get_or-front xs n p j, get_or-front ys m q j, get_or-plus (take n xs) (take m ys) j))
 
--- what a bundle's units are within, count by count
-pub units_within : (a b : Bundle) → ((k : ℕ) → k < a.lots → get_or a.counts k 0 ≤ get_or b.counts k 0) → within (units_of a) (units_of b) ≡ true
+-- lists with the same counts are within the same
+within_if : (x y v w : List ℕ) → ((j : ℕ) → get_or x j 0 ≡ get_or v j 0) → ((j : ℕ) → get_or y j 0 ≡ get_or w j 0) → within x y ≡ true → within v w ≡ true
 unfolding Within
-units_within a b h =
-    true-within (units_of a) (units_of b) (λ j.
-    ⊎_elim
-    (λ g. omega (arith, h j g, get_or_units a j, get_or_units b j))
-    (λ g. omega (arith, get_or_units a j, a.padded j g))
-    (cases_lt j a.lots))
+within_if x y v w e f h = true-within v w (λ j. omega (arith, within-true x y h j, e j, f j))
+
+within_alike : (x y v w : List ℕ) → ((j : ℕ) → get_or x j 0 ≡ get_or v j 0) → ((j : ℕ) → get_or y j 0 ≡ get_or w j 0) → within x y ≡ within v w
+within_alike x y v w e f = go (within x y) (within v w) refl refl
+  where
+    go : (s t : Bool) → within x y ≡ s → within v w ≡ t → s ≡ t
+    go true t p q = sym (within_if x y v w e f p) ∙ q
+    go false false p q = refl
+    go false true p q = sym p ∙ within_if v w x y (λ j. sym (e j)) (λ j. sym (f j)) q
+
+-- the test of all twelve counts
+fold_within : (t : Bool) (xs ys : List ℕ) → length xs ≡ length ys → fold (λ (s : Bool) (p : ℕ × ℕ). s && leb p.0 p.1) t (zip xs ys) ≡ (t && within xs ys)
+unfolding within
+fold_within t [] ys e = elim t as (λ v. v ≡ (v && true)) [ true ↦ refl | false ↦ refl ]
+fold_within t (x ∷ xs) [] e = absurd (omega arith)
+fold_within true (x ∷ xs) (y ∷ ys) e = fold_within (leb x y) xs ys (omega arith)
+fold_within false (x ∷ xs) (y ∷ ys) e = fold_within false xs ys (omega arith)
+
+pub counts_within : (a b : Bundle) → fold (λ (s : Bool) (p : ℕ × ℕ). s && leb p.0 p.1) true (zip a.counts b.counts) ≡ within (units_of a) (units_of b)
+counts_within a b =
+    fold_within true a.counts b.counts (omega (arith, a.long, b.long))
+    ∙ within_alike a.counts b.counts (units_of a) (units_of b) (λ j. sym (get_or_units a j)) (λ j. sym (get_or_units b j))
 
 pub not_within : (x y : List ℕ) (j : ℕ) → get_or y j 0 < get_or x j 0 → within x y ≡ false
 unfolding Within

@@ -10,23 +10,11 @@ use Rattle.bundle.specs.declared.refusals.SupplyRefusal.TheVariants.{LotCount}
 use Rattle.bundle.proofs.Bundles.{bundles_pos}
 use Rattle.bundle.proofs.Checks.{cond_none}
 
--- what is wrong with a lot of u units, where the lots before it have n bundles
-abbrev pub Wrong : ℕ → ℕ → Type 0
-Wrong n u = (u ≡ 0) ⊎ (64 < u) ⊎ (4096 < n * (u + 1))
-
 abbrev pub Right : ℕ → ℕ → Type 0
 Right n u = (1 ≤ u) × (u ≤ 64) × (n * (u + 1) ≤ 4096)
 
-test_wrong : (n u : ℕ) → Wrong n u → (eqb u 0 || (ltb 64 u || ltb 4096 (n * (u + 1)))) ≡ true
-test_wrong n u (inl e) = or_left _ _ (eq-eqb u 0 e)
-test_wrong n u (inr (inl h)) = or_right (eqb u 0) _ (or_left _ _ (lt-ltb 64 u h))
-test_wrong n u (inr (inr h)) = or_right (eqb u 0) _ (or_right (ltb 64 u) _ (lt-ltb 4096 (n * (u + 1)) h))
-
 test_right : (n u : ℕ) → Right n u → (eqb u 0 || (ltb 64 u || ltb 4096 (n * (u + 1)))) ≡ false
 test_right n u r = or_from _ _ (ne_eqb u 0 (λ e. omega arith)) (or_from _ _ (le-ltb 64 u r.1) (le-ltb 4096 (n * (u + 1)) r.2))
-
-pub unsold_here : (us : List ℕ) (i n : ℕ) → i < length us → Wrong n (get_or us i 0) → unsold_lot (drop i us) i n ≡ Some i
-unsold_here us i n h w = at_drop_more (λ l. unsold_lot l i n) us i 0 h ∙ cond-true _ _ _ (test_wrong n (get_or us i 0) w)
 
 pub unsold_next : (us : List ℕ) (i n : ℕ) → i < length us → Right n (get_or us i 0) →
     unsold_lot (drop i us) i n ≡ unsold_lot (drop (i + 1) us) (i + 1) (n * (get_or us i 0 + 1))
@@ -98,19 +86,6 @@ sold_exactly us = (
   taken-sold us _ refl,
   λ s. lots_right us None s.some s.few (none_right us 0 1 s.least s.most (omega (arith, s.small))),
 )
-
--- the prices, lot by lot
-pub overpriced_here : (ps : List ℕ) (i : ℕ) → i < length ps → (1000000 < get_or ps i 0) ⊎ (12 ≤ i) → overpriced_lot (drop i ps) i ≡ Some i
-overpriced_here ps i h w = at_drop_more (λ l. overpriced_lot l i) ps i 0 h ∙ cond-true _ _ _ (which w)
-  where
-    which : (1000000 < get_or ps i 0) ⊎ (12 ≤ i) → (ltb 1000000 (get_or ps i 0) || ltb 11 i) ≡ true
-    which (inl g) = or_left _ _ (lt-ltb 1000000 (get_or ps i 0) g)
-    which (inr g) = or_right (ltb 1000000 (get_or ps i 0)) _ (lt-ltb 11 i (omega arith))
-
-pub overpriced_next : (ps : List ℕ) (i : ℕ) → i < length ps → get_or ps i 0 ≤ 1000000 → i < 12 → overpriced_lot (drop i ps) i ≡ overpriced_lot (drop (i + 1) ps) (i + 1)
-overpriced_next ps i h g k =
-    at_drop_more (λ l. overpriced_lot l i) ps i 0 h
-    ∙ cond-false _ _ _ (or_from (ltb 1000000 (get_or ps i 0)) (ltb 11 i) (le-ltb 1000000 (get_or ps i 0) g) (le-ltb 11 i (omega arith)))
 
 pub overpriced_none : (ps : List ℕ) (i : ℕ) → length ps ≤ i → overpriced_lot (drop i ps) i ≡ None
 overpriced_none ps i h = at_drop_all (λ l. overpriced_lot l i) ps i h

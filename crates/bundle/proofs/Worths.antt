@@ -1,8 +1,8 @@
 -- What bundles are worth at prices: sums, bounds, and one lot more. Assumes nothing.
-use Rattle.std.proofs.Common.{◌≡◌, ℕ, suc, ◌+◌, ◌*◌, ◌^◌, ◌<◌, ◌≤◌, min, List, [], ◌∷◌, length, get_or, drop, refl, ⊎_elim, mul-add, arith}
+use Rattle.std.proofs.Common.{sum_by, ap, ◌∙◌, ◌≡◌, ℕ, suc, ◌+◌, ◌*◌, ◌^◌, ◌≤◌, List, [], ◌∷◌, length, get_or, refl, mul-add, arith}
+use Rattle.std.specs.List.{zip}
 use Rattle.std.proofs.lemmas.Nat.{mul-le}
-use Rattle.std.proofs.lemmas.List.{drop_more, drop_all}
-use Rattle.std.proofs.lemmas.Bool.{cases_lt}
+use Rattle.std.proofs.lemmas.List.Sums.{sum_by-cons}
 use Rattle.bundle.specs.Reserves.{prices_of, priced}
 use Rattle.bundle.specs.Stocks.{supply_of}
 use Rattle.bundle.specs.Units.{plus, Within}
@@ -46,15 +46,9 @@ unfolding Within
 priced_cap r s y w =
     omega (arith, length-prices r, r.few, priced_most (prices_of r) y (λ j. omega (arith, get_or-prices r j, r.small j)) (λ j. omega (arith, w j, s.most j)))
 
-pub priced_step : (ps xs : List ℕ) (i : ℕ) → i < length ps → i < length xs
-    → priced (drop i ps) (drop i xs) ≡ get_or ps i 0 * get_or xs i 0 + priced (drop (i + 1) ps) (drop (i + 1) xs)
+-- what the program adds up
+pub priced_zip : (ps xs : List ℕ) → sum_by (λ (p : ℕ × ℕ). p.0 * p.1) (zip ps xs) ≡ priced ps xs
 unfolding priced
-priced_step ps xs i h k = rw (drop_more ps i 0 h, drop_more xs i 0 k)
-
-pub priced_end : (ps xs : List ℕ) (i : ℕ) → min (length ps) (length xs) ≤ i → priced (drop i ps) (drop i xs) ≡ 0
-unfolding priced
-priced_end ps xs i h =
-    ⊎_elim
-    (λ g. rw (drop_all i xs (omega arith)) (priced_nil (drop i ps)))
-    (λ g. rw (drop_all i ps g))
-    (cases_lt i (length ps))
+priced_zip [] xs = refl
+priced_zip (p ∷ ps) [] = refl
+priced_zip (p ∷ ps) (x ∷ xs) = sum_by-cons (λ (q : ℕ × ℕ). q.0 * q.1) (p, x) (zip ps xs) ∙ ap (λ n. p * x + n) (priced_zip ps xs)

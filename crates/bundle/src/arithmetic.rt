@@ -1,10 +1,22 @@
 // Bundles: made, compared, added and taken away.
-ghost use Rattle.std.specs.Prelude.{◌≡◌, ◌≤◌, min, length, replicate, if◌then◌else◌, Some, None, nat_lt, slice_index, slice_set};
+ghost use Rattle.std.specs.Prelude.{◌≡◌, ℕ, Bool, true, ◌&&◌, fold, nat_le, ◌≤◌, min, length, replicate, if◌then◌else◌, Some, None, nat_lt, slice_index, slice_set};
+ghost use Rattle.std.specs.List.{zip};
 ghost use Rattle.std.specs.Option.{option_map};
 ghost use Rattle.bundle.specs.Bundles.{units_of};
 ghost use Rattle.bundle.specs.Units.{plus, less, within};
 
 use crate::units::Bundle;
+
+// Whether each count is at most the one in its place. There is no way out between two of them: all twelve are then compared at once,
+// where the table asks this most often.
+fn all_within(counts: &[u8], most: &[u8]) -> bool
+    ensures { result ≡ fold (λ (t : Bool) (p : ℕ × ℕ). t && nat_le p.0 p.1) true (zip counts.now most.now) }
+{
+    counts
+        .iter()
+        .zip(most)
+        .fold(true, |fits, (count, most)| fits & (*count <= *most))
+}
 
 impl Bundle {
     // No units of so many lots, at most twelve.
@@ -48,7 +60,7 @@ impl Bundle {
     pub fn count(&self, lot: usize) -> u8
         ensures { result ≡ slice_index (units_of self.now) lot }
     {
-        if lot < 12 { self.counts[lot] } else { 0 }
+        self.units().get(lot).copied().unwrap_or(0)
     }
 
     // The bundle with another count of a lot; as it is where there is no such lot.
@@ -65,12 +77,7 @@ impl Bundle {
     pub fn fits(&self, other: &Bundle) -> bool
         ensures { result ≡ within (units_of self.now) (units_of other.now) }
     {
-        let mut fits = true;
-        // No way out between lots: all twelve are then compared at once, where the table asks this most often.
-        for lot in 0..12 {
-            fits &= self.counts[lot] <= other.counts[lot];
-        }
-        fits
+        all_within(&self.counts, &other.counts)
     }
 
     // What is left once `other` is taken away; nothing of a lot that there is too little of.
@@ -78,8 +85,8 @@ impl Bundle {
         ensures { units_of result ≡ less (units_of self.now) (units_of other.now) }
     {
         let mut counts = self.counts;
-        for lot in 0..12 {
-            counts[lot] = counts[lot].saturating_sub(other.counts[lot]);
+        for (lot, count) in counts.iter_mut().enumerate() {
+            *count = count.saturating_sub(other.counts[lot]);
         }
         Bundle {
             counts,
@@ -92,11 +99,8 @@ impl Bundle {
         ensures { option_map units_of result ≡ (if within (plus (units_of self.now) (units_of other.now)) (replicate 12 255) then Some (plus (units_of self.now) (units_of other.now)) else None) }
     {
         let mut counts = self.counts;
-        for lot in 0..12 {
-            let Some(sum) = counts[lot].checked_add(other.counts[lot]) else {
-                return None;
-            };
-            counts[lot] = sum;
+        for (lot, more) in other.counts.iter().enumerate() {
+            counts[lot] = counts[lot].checked_add(*more)?;
         }
         Some(Bundle {
             counts,

@@ -11,7 +11,7 @@ mod theorems;
 mod units;
 
 pub use prices::Reserve;
-pub use refusals::SupplyRefusal;
+pub use refusals::{ReserveRefusal, SupplyRefusal};
 pub use stock::Supply;
 pub use theorems::{
     next_place_stands, place_of_difference_stands, places_below_stands, places_met_once_stands,

@@ -17,18 +17,18 @@ const MAX_UNITS: usize = 64;
 const MAX_BUNDLES: usize = 4096;
 
 // How many bundles there are within these units; else the first lot that cannot be sold.
-fn count_bundles(units: &Bundle) -> Result<usize, usize>
+fn count_bundles(units: &Bundle) -> Result<usize, SupplyRefusal>
     ensures { Counted (units_of units.now) result }
 {
     let mut total = 1;
-    for lot in 0..units.lots {
-        let count = units.counts[lot] as usize;
+    for (lot, count) in units.units().iter().enumerate() {
+        let count = usize::from(*count);
         if count == 0 || count > MAX_UNITS {
-            return Err(lot);
+            return Err(SupplyRefusal::Lot(lot));
         }
         total *= count + 1;
         if total > MAX_BUNDLES {
-            return Err(lot);
+            return Err(SupplyRefusal::Lot(lot));
         }
     }
     Ok(total)
@@ -45,10 +45,8 @@ impl Supply {
         if units.lots == 0 {
             return Err(SupplyRefusal::LotCount);
         }
-        match count_bundles(&units) {
-            Ok(total) => Ok(Supply { units, total }),
-            Err(lot) => Err(SupplyRefusal::Lot(lot)),
-        }
+        let total = count_bundles(&units)?;
+        Ok(Supply { units, total })
     }
 
     pub fn units(&self) -> Bundle
@@ -94,8 +92,8 @@ impl Supply {
         }
         let mut counts = [0; 12];
         let mut left = place;
-        for lot in 0..self.units.lots {
-            let base = self.units.counts[lot] as usize + 1;
+        for (lot, most) in self.units.units().iter().enumerate() {
+            let base = usize::from(*most) + 1;
             counts[lot] = (left % base) as u8;
             left /= base;
         }
@@ -111,8 +109,8 @@ impl Supply {
     {
         let mut counts = x.counts;
         let lots = self.units.lots.min(x.lots);
-        for lot in 0..lots {
-            if counts[lot] < self.units.counts[lot] {
+        for (lot, most) in self.units.counts[..lots].iter().enumerate() {
+            if counts[lot] < *most {
                 counts[lot] += 1;
                 return Bundle {
                     counts,

@@ -3,36 +3,26 @@ ghost use Rattle.bundle.specs.Supplies.{SoldExactly};
 ghost use Rattle.bundle.specs.Units.{PlacesMetOnce, PlacesBelow, PlaceOfDifference, NextPlace};
 
 // A supply is taken exactly if it has 1 to 12 lots, 1 to 64 units of each, and at most 4,096 bundles.
-pub fn sold_exactly_stands() -> u8
+pub fn sold_exactly_stands()
     ensures { SoldExactly }
-{
-    0
-}
+{}
 
 // Each place below the number of bundles is met by exactly one bundle within the supply.
-pub fn places_met_once_stands() -> u8
+pub fn places_met_once_stands()
     ensures { PlacesMetOnce }
-{
-    0
-}
+{}
 
 // Each bundle within the supply has such a place.
-pub fn places_below_stands() -> u8
+pub fn places_below_stands()
     ensures { PlacesBelow }
-{
-    0
-}
+{}
 
 // To take a bundle away that fits subtracts its place.
-pub fn place_of_difference_stands() -> u8
+pub fn place_of_difference_stands()
     ensures { PlaceOfDifference }
-{
-    0
-}
+{}
 
 // The next bundle is the one at the next place.
-pub fn next_place_stands() -> u8
+pub fn next_place_stands()
     ensures { NextPlace }
-{
-    0
-}
+{}

@@ -2,6 +2,7 @@
 #![tactic(auto)]
 
 use book::Answer;
+use report::{Refusals, Report};
 use sale::Sale;
 use session::{RunRefusal, message_count, run};
 use std::process::ExitCode;
@@ -26,22 +27,10 @@ The formats and the numbers are in docs/FORMATS.md. The status is 0 where the sa
 opened, and 1 where it is refused or FILE cannot be read.
 ";
 
-// The lines of the messages that are refused.
-fn print_refused(rt: &HostRuntime, answers: &[Answer]) -> io::Result<()> {
-    for (k, answer) in answers.iter().enumerate() {
-        if let Answer::Refused(refusal) = *answer {
-            let number = refusal.number();
-            let place = refusal.place();
-            println!(rt; "message {k} refused {number} at {place}")?;
-        }
-    }
-    Ok(())
-}
-
 fn print_sale(rt: &HostRuntime, sale: &Sale, answers: &[Answer]) -> io::Result<ExitCode> {
-    print_refused(rt, answers)?;
+    let messages = Refusals { answers };
     let sheets = sale.standing();
-    println!(rt; "sheets {sheets}")?;
+    println!(rt; "{messages}sheets {sheets}")?;
     Ok(ExitCode::SUCCESS)
 }
 
@@ -49,9 +38,8 @@ fn print_sale(rt: &HostRuntime, sale: &Sale, answers: &[Answer]) -> io::Result<E
 fn print_refusal(rt: &HostRuntime, refusal: RunRefusal) -> io::Result<ExitCode> {
     match refusal {
         RunRefusal::Opening(refusal) => {
-            let number = refusal.number();
-            let place = refusal.place();
-            println!(rt; "sale refused {number} at {place}")?;
+            let report = Report::of_refusal(refusal);
+            print!(rt; "{report}")?;
         }
         RunRefusal::Room(count) => eprintln!(rt; "close_sale: no room for {count} answers")?,
     }
@@ -59,14 +47,14 @@ fn print_refusal(rt: &HostRuntime, refusal: RunRefusal) -> io::Result<ExitCode> 
 }
 
 fn close(rt: &HostRuntime, file: &[u8]) -> anyhow::Result<ExitCode> {
-    let count = message_count(file);
-    let mut answers = vec![in rt.alloc(); Answer::Taken; count]?;
+    let mut answers = vec![in rt.alloc(); Ok(()); message_count(file)]?;
     match run(file, &mut answers) {
         Ok(sale) => Ok(print_sale(rt, &sale, &answers)?),
         Err(refusal) => Ok(print_refusal(rt, refusal)?),
     }
 }
 
+// This and `main` stand in settle_sale too: a library's function that only reads and prints would have no contract.
 fn close_file(rt: &HostRuntime, path: &str) -> anyhow::Result<ExitCode> {
     match fs::read(rt, path) {
         Ok(file) => close(rt, &file),

@@ -1,44 +1,40 @@
-// What a farm is told, and what a close is answered, in numbers.
+// What farms are told and how sales end, in numbers.
 use book::Answer;
 use sale::ClosingRefusal;
-use sheets::MessageRefusal;
+use sheets::{MessageRefusal, Refusal};
 
 // An answer that no message is given: one that is refused for fewer than six bytes does not have 99.
-pub const UNTOLD: Answer = Answer::Refused(MessageRefusal::Short(99));
+pub const UNTOLD: Answer = Err(MessageRefusal::Short(99));
 
-// The number and the place of the refusal; (0, 0) where the message is taken.
-pub fn told(answer: Answer) -> (u8, usize) {
-    match answer {
-        Answer::Taken => (0, 0),
-        Answer::Refused(refusal) => (refusal.number(), refusal.place()),
-    }
+// The number of a check that fails, and the place of the fault.
+pub type Fault = (u8, usize);
+
+pub fn fault<R: Refusal + Copy>(refusal: R) -> Fault {
+    (refusal.number(), refusal.place())
+}
+
+pub fn told(answer: Answer) -> Option<Fault> {
+    answer.err().map(fault)
 }
 
 // The same of a sale that may be closed.
-pub fn told_in_life(answer: Result<Answer, ClosingRefusal>) -> (u8, usize) {
+pub fn told_in_life(answer: Result<Answer, ClosingRefusal>) -> Option<Fault> {
     match answer {
         Ok(answer) => told(answer),
-        Err(refusal) => (refusal.number(), refusal.place()),
+        Err(refusal) => Some(fault(refusal)),
     }
 }
 
 // Whether these are the answers, in numbers.
-pub fn all_told(answers: &[Answer], wanted: &[(u8, usize)]) -> bool {
-    if answers.len() != wanted.len() {
-        return false;
-    }
-    for k in 0..answers.len() {
-        if told(answers[k]) != wanted[k] {
-            return false;
-        }
-    }
-    true
+pub fn all_told(answers: &[Answer], wanted: &[Option<Fault>]) -> bool {
+    answers.len() == wanted.len()
+        && answers
+            .iter()
+            .zip(wanted)
+            .all(|(answer, fault)| told(*answer) == *fault)
 }
 
-// The worth of a close, or 0; then the number and the place of its refusal, or (0, 0).
-pub fn closed(answer: Result<u64, ClosingRefusal>) -> (u64, u8, usize) {
-    match answer {
-        Ok(worth) => (worth, 0, 0),
-        Err(refusal) => (0, refusal.number(), refusal.place()),
-    }
+// The worth of a close, or its refusal in numbers.
+pub fn closed(answer: Result<u64, ClosingRefusal>) -> Result<u64, Fault> {
+    answer.map_err(fault)
 }

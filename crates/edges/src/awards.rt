@@ -36,9 +36,7 @@ fn comes_out(
     wanted: &Outcome,
 ) -> Result<(), Fail> {
     let supply = Supply::new(units)?;
-    let Ok(reserve) = Reserve::new(prices) else {
-        return Err(Fail::new("reserve"));
-    };
+    let reserve = Reserve::new(prices)?;
     let farms = wanted.award.len();
     let sheets = sheets_of(units.len(), lines)?;
     if farms > 4 {
@@ -90,9 +88,7 @@ fn in_room(
     refusal: &Option<AwardRefusal>,
 ) -> Result<(), Fail> {
     let supply = Supply::new(&[1, 1])?;
-    let Ok(reserve) = Reserve::new(&[10, 10]) else {
-        return Err(Fail::new("reserve"));
-    };
+    let reserve = Reserve::new(&[10, 10])?;
     let sheets = sheets_of(2, THREE)?;
     let mut table = [7; 17];
     let mut got = [7; 4];
@@ -133,9 +129,7 @@ fn rooms(rt: HostRuntime) -> Result<(), Fail> {
 #[test]
 fn farms(rt: HostRuntime) -> Result<(), Fail> {
     let supply = Supply::new(&[1])?;
-    let Ok(reserve) = Reserve::new(&[4]) else {
-        return Err(Fail::new("reserve"));
-    };
+    let reserve = Reserve::new(&[4])?;
     let sheets = [Sheet::new(); 49];
     let mut table = [7; 100];
     let mut got = [7; 49];

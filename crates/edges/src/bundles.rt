@@ -23,9 +23,7 @@ fn places(rt: HostRuntime) -> Result<(), Fail> {
 #[test]
 fn steps(rt: HostRuntime) -> Result<(), Fail> {
     let supply = Supply::new(&[2, 1, 3])?;
-    let Ok(reserve) = Reserve::new(&[1, 10, 100]) else {
-        return Err(Fail::new("reserve"));
-    };
+    let reserve = Reserve::new(&[1, 10, 100])?;
     let mut x = Bundle::empty(3);
     for place in 0..24 {
         assert_eq!(rt; supply.place(&x), place);

@@ -1,5 +1,5 @@
 // Sales that take their messages and are closed; and rows of another length.
-use crate::answers::{closed, told, told_in_life};
+use crate::answers::{Fault, closed, fault, told, told_in_life};
 use crate::samples::{Outcome, SALES, Stated, THREE, sheet_of};
 use accounts::close;
 use book::Book;
@@ -24,10 +24,10 @@ fn lots_of(units: &[u8], prices: &[u32]) -> [Lot; 2] {
         units: 0,
         reserve: 0,
     }; 2];
-    for k in 0..units.len().min(prices.len()).min(2) {
-        lots[k] = Lot {
-            units: units[k],
-            reserve: prices[k],
+    for (lot, (units, reserve)) in lots.iter_mut().zip(units.iter().zip(prices)) {
+        *lot = Lot {
+            units: *units,
+            reserve: *reserve,
         };
     }
     lots
@@ -45,7 +45,7 @@ fn with_sheet(rt: &impl Abort, sale: Sale, farm: u8, sheet: Sheet) -> Result<Sal
     };
     assert!(rt; size <= 18);
     let (sale, answer) = sale.post(&out[0..size]);
-    assert_eq!(rt; told(answer), (0, 0));
+    assert_eq!(rt; told(answer), None);
     Ok(sale)
 }
 
@@ -60,7 +60,7 @@ fn sale_of(
     assert!(rt; units.len() <= 2 && accounts.len() <= 4);
     let lots = lots_of(units, prices);
     let mut sale = Sale::open(&lots[0..units.len()], accounts, 1000)?;
-    for farm in 0..accounts.len() {
+    for (farm, _) in accounts.iter().enumerate() {
         sale = with_sheet(rt, sale, farm as u8, sheet_of(units.len(), lines, farm)?)?;
     }
     Ok(Life::Open(sale))
@@ -77,7 +77,7 @@ fn comes_out(rt: &impl Abort, sale: Life, wanted: &Outcome) -> Life {
     let got = &mut [7; 4][0..farms];
     let pays = &mut [7; 4][0..farms];
     let (sale, answer) = sale.close(&mut [7; 45], got, pays);
-    assert_eq!(rt; closed(answer), (wanted.worth, 0, 0));
+    assert_eq!(rt; closed(answer), Ok(wanted.worth));
     assert!(rt; &*got == wanted.award && &*pays == wanted.charges);
     sale
 }
@@ -104,11 +104,7 @@ fn spent(rt: HostRuntime) -> Result<(), Fail> {
 }
 
 fn sum(row: &[u64]) -> u64 {
-    let mut all: u64 = 0;
-    for part in row {
-        all = all.wrapping_add(*part);
-    }
-    all
+    row.iter().fold(0, |all, part| all.wrapping_add(*part))
 }
 
 fn money(sale: &Life) -> u64 {
@@ -139,7 +135,7 @@ fn refused(
     long: usize,
     places: usize,
     prices: usize,
-) -> Result<(Life, (u8, usize)), Fail> {
+) -> Result<(Life, Fault), Fail> {
     let mut table = [7; 17];
     let mut got = [7; 4];
     let mut pays = [7; 4];
@@ -152,7 +148,7 @@ fn refused(
     assert!(rt; table == [7; 17] && got == [7; 4] && pays == [7; 4]);
     match answer {
         Ok(_) => Err(Fail::new("closed")),
-        Err(refusal) => Ok((sale, (refusal.number(), refusal.place()))),
+        Err(refusal) => Ok((sale, fault(refusal))),
     }
 }
 
@@ -178,7 +174,7 @@ fn rooms(rt: HostRuntime) -> Result<(), Fail> {
         assert_eq!(rt; given, (15, place));
         assert!(rt; sale.accounts() == [200, 100, 100].as_slice() && sale.company() == 1000);
         let (sale, answer) = sale.post(AGAIN);
-        assert_eq!(rt; told_in_life(answer), (0, 0));
+        assert_eq!(rt; told_in_life(answer), None);
         let _ = comes_out(&rt, sale, &WANTED);
     }
     Ok(())
@@ -193,7 +189,7 @@ fn tables(rt: HostRuntime) -> Result<(), Fail> {
         let mut got = [7; 3];
         let mut pays = [7; 3];
         let (_, answer) = sale.close(&mut table[0..long], &mut got, &mut pays);
-        assert_eq!(rt; closed(answer), (130, 0, 0));
+        assert_eq!(rt; closed(answer), Ok(130));
         assert!(rt; table[3] == 130 && table[15] == 20 && table[16] == 7);
     }
     Ok(())
@@ -206,7 +202,7 @@ fn closed_for_good(rt: HostRuntime) -> Result<(), Fail> {
     let mut sale = comes_out(&rt, three_farms(&rt)?, &WANTED);
     for bytes in messages {
         let (next, answer) = sale.post(bytes);
-        assert_eq!(rt; told_in_life(answer), (1, 0));
+        assert_eq!(rt; told_in_life(answer), Some((1, 0)));
         sale = next;
     }
     for (long, places) in [(16, 3), (15, 3), (16, 2)] {
@@ -221,9 +217,7 @@ fn closed_for_good(rt: HostRuntime) -> Result<(), Fail> {
 // What a book holds once its sale is closed: the number of the last message, an account of 1, and no sheet.
 #[test]
 fn emptied(rt: HostRuntime) -> Result<(), Fail> {
-    let Ok(reserve) = Reserve::new(&[4]) else {
-        return Err(Fail::new("reserve"));
-    };
+    let reserve = Reserve::new(&[4])?;
     let Some(book) = Book::open(Supply::new(&[1])?, &[5]) else {
         return Err(Fail::new("book"));
     };
@@ -234,11 +228,11 @@ fn emptied(rt: HostRuntime) -> Result<(), Fail> {
     };
     assert!(rt; book.accounts() == [1].as_slice() && sheet.lines().is_empty());
     let (_, answer) = book.post(&[0, 1, 0, 0, 0, 0]);
-    assert_eq!(rt; told(answer), (4, 1));
+    assert_eq!(rt; told(answer), Some((4, 1)));
     let (_, answer) = book.post(&[0, 2, 0, 0, 0, 1, 2, 0, 0, 0, 1]);
-    assert_eq!(rt; told(answer), (7, 6));
+    assert_eq!(rt; told(answer), Some((7, 6)));
     let (_, answer) = book.post(&[0, 2, 0, 0, 0, 1, 1, 0, 0, 0, 1]);
-    assert_eq!(rt; told(answer), (0, 0));
+    assert_eq!(rt; told(answer), None);
     Ok(())
 }
 
@@ -258,7 +252,7 @@ fn last_sheets(rt: HostRuntime) -> Result<(), Fail> {
         sale = next;
         let mut got = [7; 2];
         let (_, answer) = sale.close(&mut [7; 36], &mut got, &mut [7; 2]);
-        assert_eq!(rt; closed(answer), (worth, 0, 0));
+        assert_eq!(rt; closed(answer), Ok(worth));
         assert!(rt; got == award);
     }
     Ok(())

@@ -1,5 +1,5 @@
 // Whole files, and files that are cut short.
-use crate::answers::told;
+use crate::answers::{Fault, fault, told};
 use book::Answer;
 use session::{RunRefusal, message_count, run};
 
@@ -9,25 +9,23 @@ pub const FILE: &[u8] =
     b"\x01\x02\x05\0\0\0\x02\x64\0\0\0\x32\0\0\0\x07\0\0\0\0\0\0\0\x0b\0\0\x01\0\0\0\x01\x3c\0\0\0\x02\x0b\0\x01\x01\0\0\0\x01\x3c\0\0\0\x02\0";
 
 // For the first so many bytes: how many messages there are, and what the last of them is told.
-pub const CUTS: [(usize, usize, u8, usize); 6] = [
-    (24, 1, 2, 0),
-    (28, 1, 2, 3),
-    (35, 1, 6, 10),
-    (36, 1, 0, 0),
-    (49, 2, 7, 6),
-    (50, 3, 2, 0),
+pub const CUTS: [(usize, usize, Option<Fault>); 6] = [
+    (24, 1, Some((2, 0))),
+    (28, 1, Some((2, 3))),
+    (35, 1, Some((6, 10))),
+    (36, 1, None),
+    (49, 2, Some((7, 6))),
+    (50, 3, Some((2, 0))),
 ];
 
-fn refused(file: &[u8], row: &mut [Answer]) -> (u8, usize) {
-    match run(file, row) {
-        Ok(_) => (0, 0),
-        Err(refusal) => numbers_of(refusal),
-    }
+fn refused(file: &[u8], row: &mut [Answer]) -> Option<Fault> {
+    run(file, row).err().map(run_fault)
 }
 
-pub fn numbers_of(refusal: RunRefusal) -> (u8, usize) {
+// A row that is too short has no number in the rules: 255 stands for it here.
+pub fn run_fault(refusal: RunRefusal) -> Fault {
     match refusal {
-        RunRefusal::Opening(refusal) => (refusal.number(), refusal.place()),
+        RunRefusal::Opening(refusal) => fault(refusal),
         RunRefusal::Room(count) => (255, count),
     }
 }
@@ -36,28 +34,28 @@ pub fn numbers_of(refusal: RunRefusal) -> (u8, usize) {
 fn openings(rt: HostRuntime) {
     assert!(rt; FILE.len() == 50);
     for size in 0..23 {
-        assert_eq!(rt; refused(&FILE[0..size], &mut []), (9, 0));
+        assert_eq!(rt; refused(&FILE[0..size], &mut []), Some((9, 0)));
     }
-    assert_eq!(rt; refused(&FILE[0..23], &mut []), (0, 0));
+    assert_eq!(rt; refused(&FILE[0..23], &mut []), None);
     assert_eq!(rt; message_count(&FILE[0..23]), 0);
 }
 
 #[test]
 fn messages(rt: HostRuntime) {
     assert!(rt; FILE.len() == 50);
-    for (size, count, number, place) in CUTS {
+    for (size, count, wanted) in CUTS {
         assert!(rt; size <= 50 && count >= 1 && count <= 3);
-        let mut row = [Answer::Taken; 3];
+        let mut row = [Ok(()); 3];
         assert_eq!(rt; message_count(&FILE[0..size]), count);
-        assert_eq!(rt; refused(&FILE[0..size], &mut row), (0, 0));
-        assert_eq!(rt; told(row[count - 1]), (number, place));
+        assert_eq!(rt; refused(&FILE[0..size], &mut row), None);
+        assert_eq!(rt; told(row[count - 1]), wanted);
     }
 }
 
 // A row that is too short is refused, and left as it was.
 #[test]
 fn rooms(rt: HostRuntime) {
-    let mut row = [Answer::Taken; 2];
-    assert_eq!(rt; refused(FILE, &mut row), (255, 3));
-    assert_eq!(rt; told(row[1]), (0, 0));
+    let mut row = [Ok(()); 2];
+    assert_eq!(rt; refused(FILE, &mut row), Some((255, 3)));
+    assert_eq!(rt; told(row[1]), None);
 }

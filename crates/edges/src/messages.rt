@@ -1,44 +1,41 @@
 // Messages on both sides of each limit.
-use crate::answers::told;
+use crate::answers::{Fault, told};
 use bundle::Bundle;
 use sale::{Lot, Sale};
 use sheets::{Line, Message, Sheet, write};
 use std::test::Fail;
 
-// What a message is refused with, or (0, 0), where farm 0 has sent one under the number 511.
-const MESSAGES: [(&[u8], u8, usize); 19] = [
-    (&[], 2, 0),
-    (&[9, 0, 0, 0, 0], 2, 5),
-    (&[2, 1, 0, 0, 0, 0], 3, 0),
-    (&[1, 1, 0, 0, 0, 0], 0, 0),
-    (&[1, 0, 0, 0, 0, 0], 4, 1),
-    (&[0, 255, 1, 0, 0, 0], 4, 1),
-    (&[0, 0, 2, 0, 0, 0], 0, 0),
-    (&[0, 0, 0, 0, 1, 0], 0, 0),
-    (&[0, 0, 2, 0, 0, 1, 100, 0, 0, 0, 2], 6, 11),
-    (&[0, 0, 2, 0, 0, 1, 100, 0, 0, 0, 2, 3], 0, 0),
-    (&[0, 0, 2, 0, 0, 1, 101, 0, 0, 0, 2, 3], 7, 6),
-    (&[1, 1, 0, 0, 0, 1, 50, 0, 0, 0, 2, 3], 0, 0),
-    (&[1, 1, 0, 0, 0, 1, 51, 0, 0, 0, 2, 3], 7, 6),
+// What a message is refused with, where farm 0 has sent one under the number 511.
+const MESSAGES: [(&[u8], Option<Fault>); 19] = [
+    (&[], Some((2, 0))),
+    (&[9, 0, 0, 0, 0], Some((2, 5))),
+    (&[2, 1, 0, 0, 0, 0], Some((3, 0))),
+    (&[1, 1, 0, 0, 0, 0], None),
+    (&[1, 0, 0, 0, 0, 0], Some((4, 1))),
+    (&[0, 255, 1, 0, 0, 0], Some((4, 1))),
+    (&[0, 0, 2, 0, 0, 0], None),
+    (&[0, 0, 0, 0, 1, 0], None),
+    (&[0, 0, 2, 0, 0, 1, 100, 0, 0, 0, 2], Some((6, 11))),
+    (&[0, 0, 2, 0, 0, 1, 100, 0, 0, 0, 2, 3], None),
+    (&[0, 0, 2, 0, 0, 1, 101, 0, 0, 0, 2, 3], Some((7, 6))),
+    (&[1, 1, 0, 0, 0, 1, 50, 0, 0, 0, 2, 3], None),
+    (&[1, 1, 0, 0, 0, 1, 51, 0, 0, 0, 2, 3], Some((7, 6))),
     // a worth of 256 in the second line
     (
         &[1, 1, 0, 0, 0, 2, 50, 0, 0, 0, 2, 3, 0, 1, 0, 0, 0, 0],
-        7,
-        12,
+        Some((7, 12)),
     ),
-    (&[1, 1, 0, 0, 0, 1, 0, 0, 0, 0, 3, 0], 8, 10),
-    (&[1, 1, 0, 0, 0, 1, 0, 0, 0, 0, 2, 4], 8, 11),
+    (&[1, 1, 0, 0, 0, 1, 0, 0, 0, 0, 3, 0], Some((8, 10))),
+    (&[1, 1, 0, 0, 0, 1, 0, 0, 0, 0, 2, 4], Some((8, 11))),
     // the worth before the units, and the first line before the second
-    (&[1, 1, 0, 0, 0, 1, 51, 0, 0, 0, 3, 0], 7, 6),
+    (&[1, 1, 0, 0, 0, 1, 51, 0, 0, 0, 3, 0], Some((7, 6))),
     (
         &[1, 1, 0, 0, 0, 2, 1, 0, 0, 0, 2, 4, 51, 0, 0, 0, 0, 0],
-        8,
-        11,
+        Some((8, 11)),
     ),
     (
         &[1, 1, 0, 0, 0, 2, 1, 0, 0, 0, 2, 3, 0, 0, 0, 0, 3, 0],
-        8,
-        16,
+        Some((8, 16)),
     ),
 ];
 
@@ -60,10 +57,10 @@ fn sale() -> Result<Sale, Fail> {
 #[test]
 fn refusals(rt: HostRuntime) -> Result<(), Fail> {
     let (sale, answer) = sale()?.post(&[0, 255, 1, 0, 0, 0]);
-    assert_eq!(rt; told(answer), (0, 0));
-    for (bytes, number, place) in MESSAGES {
+    assert_eq!(rt; told(answer), None);
+    for (bytes, wanted) in MESSAGES {
         let (_, answer) = sale.post(bytes);
-        assert_eq!(rt; told(answer), (number, place));
+        assert_eq!(rt; told(answer), wanted);
     }
     Ok(())
 }
@@ -73,19 +70,19 @@ fn refusals(rt: HostRuntime) -> Result<(), Fail> {
 fn counts(rt: HostRuntime) -> Result<(), Fail> {
     let sale = sale()?;
     let cases = [
-        (32, 198, 0, 0),
-        (32, 197, 6, 197),
-        (32, 199, 6, 199),
-        (33, 204, 5, 5),
-        (33, 198, 5, 5),
+        (32, 198, None),
+        (32, 197, Some((6, 197))),
+        (32, 199, Some((6, 199))),
+        (33, 204, Some((5, 5))),
+        (33, 198, Some((5, 5))),
     ];
-    for (count, size, number, place) in cases {
+    for (count, size, wanted) in cases {
         let mut bytes = [0u8; 204];
         bytes[1] = 1;
         bytes[5] = count;
         assert!(rt; size <= 204);
         let (_, answer) = sale.post(&bytes[0..size]);
-        assert_eq!(rt; told(answer), (number, place));
+        assert_eq!(rt; told(answer), wanted);
     }
     Ok(())
 }

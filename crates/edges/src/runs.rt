@@ -1,6 +1,6 @@
 // Whole files that are run to the close.
-use crate::answers::{UNTOLD, all_told, closed, told};
-use crate::files::{CUTS, FILE, numbers_of};
+use crate::answers::{Fault, UNTOLD, all_told, closed, told};
+use crate::files::{CUTS, FILE, run_fault};
 use book::Answer;
 use session::run_to_close;
 use std::process::Abort;
@@ -11,16 +11,16 @@ use std::test::Fail;
 const THREE_FARMS: &[u8] =
     b"\x02\x01\x0a\0\0\0\x01\x0a\0\0\0\x03\xc8\0\0\0\x64\0\0\0\x64\0\0\0\xe8\x03\0\0\0\0\0\0\x0c\0\0\x01\0\0\0\x01\x78\0\0\0\x01\x01\x0c\0\x01\x01\0\0\0\x01\x46\0\0\0\x01\0\x0c\0\x02\x01\0\0\0\x01\x3c\0\0\0\0\x01";
 
-// What a run is refused with, or (0, 0); one that is refused has to leave its rows as they were.
-fn refused(rt: &impl Abort, file: &[u8], answers: &mut [Answer]) -> Result<(u8, usize), Fail> {
+// What a run is refused with; one that is refused has to leave its rows as they were.
+fn refused(rt: &impl Abort, file: &[u8], answers: &mut [Answer]) -> Result<Option<Fault>, Fail> {
     let mut table = [7; 9];
     let mut award = [7; 2];
     let mut charges = [7; 2];
     match run_to_close(file, answers, &mut table, &mut award, &mut charges) {
-        Ok(_) => Ok((0, 0)),
+        Ok(_) => Ok(None),
         Err(refusal) => {
             assert!(rt; table == [7; 9] && award == [7; 2] && charges == [7; 2]);
-            Ok(numbers_of(refusal))
+            Ok(Some(run_fault(refusal)))
         }
     }
 }
@@ -29,20 +29,20 @@ fn refused(rt: &impl Abort, file: &[u8], answers: &mut [Answer]) -> Result<(u8, 
 fn cut_openings(rt: HostRuntime) -> Result<(), Fail> {
     assert!(rt; FILE.len() == 50);
     for size in 0..23 {
-        assert_eq!(rt; refused(&rt, &FILE[0..size], &mut [])?, (9, 0));
+        assert_eq!(rt; refused(&rt, &FILE[0..size], &mut [])?, Some((9, 0)));
     }
-    assert_eq!(rt; refused(&rt, &FILE[0..23], &mut [])?, (0, 0));
+    assert_eq!(rt; refused(&rt, &FILE[0..23], &mut [])?, None);
     Ok(())
 }
 
 #[test]
 fn cut_messages(rt: HostRuntime) -> Result<(), Fail> {
     assert!(rt; FILE.len() == 50);
-    for (size, count, number, place) in CUTS {
+    for (size, count, wanted) in CUTS {
         assert!(rt; size <= 50 && count >= 1 && count <= 3);
         let mut row = [UNTOLD; 3];
-        assert_eq!(rt; refused(&rt, &FILE[0..size], &mut row)?, (0, 0));
-        assert_eq!(rt; told(row[count - 1]), (number, place));
+        assert_eq!(rt; refused(&rt, &FILE[0..size], &mut row)?, None);
+        assert_eq!(rt; told(row[count - 1]), wanted);
     }
     Ok(())
 }
@@ -51,15 +51,15 @@ fn cut_messages(rt: HostRuntime) -> Result<(), Fail> {
 #[test]
 fn untold(rt: HostRuntime) -> Result<(), Fail> {
     let mut row = [UNTOLD; 2];
-    assert_eq!(rt; refused(&rt, FILE, &mut row)?, (255, 3));
-    assert!(rt; all_told(&row, &[(2, 99); 2]));
+    assert_eq!(rt; refused(&rt, FILE, &mut row)?, Some((255, 3)));
+    assert!(rt; all_told(&row, &[Some((2, 99)); 2]));
     assert!(rt; FILE.len() == 50);
     let mut file = [0; 50];
     file.copy_from_slice(FILE);
     file[1] = 65;
     let mut row = [UNTOLD; 3];
-    assert_eq!(rt; refused(&rt, &file, &mut row)?, (10, 0));
-    assert!(rt; all_told(&row, &[(2, 99); 3]));
+    assert_eq!(rt; refused(&rt, &file, &mut row)?, Some((10, 0)));
+    assert!(rt; all_told(&row, &[Some((2, 99)); 3]));
     Ok(())
 }
 
@@ -79,8 +79,8 @@ fn three_farms(rt: HostRuntime) -> Result<(), Fail> {
     ) else {
         return Err(Fail::new("refused"));
     };
-    assert_eq!(rt; closed(session.closing), (130, 0, 0));
-    assert!(rt; all_told(&answers, &[(0, 0), (0, 0), (0, 0), (2, 99)]));
+    assert_eq!(rt; closed(session.closing), Ok(130));
+    assert!(rt; all_told(&answers, &[None, None, None, Some((2, 99))]));
     assert!(rt; award == [0, 1, 1] && charges == [0, 60, 50]);
     let sale = session.sale;
     assert!(rt; sale.accounts() == [200, 40, 50].as_slice() && sale.company() == 1110);
@@ -97,8 +97,8 @@ fn too_large(rt: HostRuntime) -> Result<(), Fail> {
     let Ok(session) = run_to_close(FILE, &mut answers, &mut table, &mut award, &mut charges) else {
         return Err(Fail::new("refused"));
     };
-    assert_eq!(rt; closed(session.closing), (0, 15, 0));
-    assert!(rt; all_told(&answers, &[(0, 0), (7, 6), (2, 0)]));
+    assert_eq!(rt; closed(session.closing), Err((15, 0)));
+    assert!(rt; all_told(&answers, &[None, Some((7, 6)), Some((2, 0))]));
     assert!(rt; table == [7; 8] && award == [7; 2] && charges == [7; 2]);
     let sale = session.sale;
     assert!(rt; sale.accounts() == [100, 50].as_slice() && sale.company() == 7);

@@ -2,24 +2,26 @@
 use Rattle.std.specs.Prelude.{ℕ, ◌+◌, List, [], ◌∷◌, ◌++◌, Ok, Err, codes, decimal, Result}
 use Rattle.sheets.specs.Numbers.{message_number, message_place}
 use Rattle.sheets.specs.declared.refusals.MessageRefusal.{MessageRefusal}
-use Rattle.book.specs.declared.answers.Answer.{Answer}
-use Rattle.book.specs.declared.answers.Answer.TheVariants.{Taken, Refused}
+use Rattle.book.specs.Posting.{Reply}
 use Rattle.sale.specs.Numbers.{opening_number, opening_place, closing_number, closing_place}
 use Rattle.sale.specs.declared.refusals.ClosingRefusal.{ClosingRefusal}
 use Rattle.sale.specs.declared.refusals.OpeningRefusal.{OpeningRefusal}
 
+-- the number of a refusal, its place, and the end of the line
+abbrev pub refusal : (number place : ℕ) → List ℕ
+refusal number place = codes "refused " ++ (decimal number ++ (codes " at " ++ (decimal place ++ codes "\n")))
+
 -- the message with the number k is refused
 abbrev pub refused_line : ℕ → MessageRefusal → List ℕ
-refused_line k e =
-    codes "message " ++ (decimal k ++ (codes " refused " ++ (decimal (message_number e) ++ (codes " at " ++ (decimal (message_place e) ++ codes "\n")))))
+refused_line k e = codes "message " ++ (decimal k ++ (codes " " ++ refusal (message_number e) (message_place e)))
 
 -- a message that is taken has no line
-abbrev pub answer_line : ℕ → Answer → List ℕ
-answer_line k Taken = []
-answer_line k (Refused e) = refused_line k e
+abbrev pub answer_line : ℕ → Reply → List ℕ
+answer_line k (Ok u) = []
+answer_line k (Err e) = refused_line k e
 
 -- the messages from k on
-abbrev pub refused_lines : ℕ → List Answer → List ℕ
+abbrev pub refused_lines : ℕ → List Reply → List ℕ
 refused_lines k [] = []
 refused_lines k (a ∷ rest) = answer_line k a ++ refused_lines (k + 1) rest
 
@@ -36,18 +38,17 @@ farm_lines k (l ∷ award) (p ∷ charges) [] = []
 farm_lines k (l ∷ award) (p ∷ charges) (a ∷ accounts) = farm_line k l p a ++ farm_lines (k + 1) award charges accounts
 
 -- a sale that was closed
-abbrev pub closed_text : List Answer → (worth : ℕ) → (award charges accounts : List ℕ) → (company : ℕ) → List ℕ
+abbrev pub closed_text : List Reply → (worth : ℕ) → (award charges accounts : List ℕ) → (company : ℕ) → List ℕ
 closed_text answers worth award charges accounts company =
     refused_lines 0 answers
     ++ (codes "worth " ++ (decimal worth ++ (codes "\n" ++ (farm_lines 0 award charges accounts ++ (codes "company " ++ (decimal company ++ codes "\n"))))))
 
--- a refused sale: the number of the refusal, and the place
+-- a refused sale
 abbrev pub sale_refused : (number place : ℕ) → List ℕ
-sale_refused number place =
-    codes "sale refused " ++ (decimal number ++ (codes " at " ++ (decimal place ++ codes "\n")))
+sale_refused number place = codes "sale " ++ refusal number place
 
 -- a sale whose closing was refused
-abbrev pub not_closed_text : List Answer → ClosingRefusal → List ℕ
+abbrev pub not_closed_text : List Reply → ClosingRefusal → List ℕ
 not_closed_text answers e = refused_lines 0 answers ++ sale_refused (closing_number e) (closing_place e)
 
 -- a sale that was not opened
@@ -55,6 +56,6 @@ abbrev pub not_opened_text : OpeningRefusal → List ℕ
 not_opened_text e = sale_refused (opening_number e) (opening_place e)
 
 -- a sale that was opened, by the answer to its close
-abbrev pub told_text : Result ℕ ClosingRefusal → List Answer → (award charges accounts : List ℕ) → (company : ℕ) → List ℕ
+abbrev pub told_text : Result ℕ ClosingRefusal → List Reply → (award charges accounts : List ℕ) → (company : ℕ) → List ℕ
 told_text (Ok worth) answers award charges accounts company = closed_text answers worth award charges accounts company
 told_text (Err e) answers award charges accounts company = not_closed_text answers e

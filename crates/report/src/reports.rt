@@ -3,7 +3,7 @@ ghost use Rattle.std.specs.Prelude.{Some};
 ghost use Rattle.report.specs.Reports.{text_of};
 
 use crate::farms::Farms;
-use crate::refusals::{Refusals, SaleRefused};
+use crate::refusals::{Refusals, Refused};
 use book::Answer;
 use sale::{ClosingRefusal, OpeningRefusal};
 use std::fmt;
@@ -32,19 +32,13 @@ impl<'a> fmt::Display for Report<'a> {
     fn fmt<W: fmt::Write>(&self, f: &mut fmt::Formatter<W>) -> fmt::Result {
         match *self {
             Report::NotOpened(refusal) => {
-                let refused = SaleRefused {
-                    number: refusal.number(),
-                    place: refusal.place(),
-                };
-                write!(f, "{refused}")
+                let refused = Refused(refusal);
+                write!(f, "sale {refused}")
             }
             Report::NotClosed { answers, refusal } => {
                 let messages = Refusals { answers };
-                let refused = SaleRefused {
-                    number: refusal.number(),
-                    place: refusal.place(),
-                };
-                write!(f, "{messages}{refused}")
+                let refused = Refused(refusal);
+                write!(f, "{messages}sale {refused}")
             }
             Report::Closed {
                 answers,

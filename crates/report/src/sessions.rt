@@ -1,9 +1,9 @@
 // What is told of a session over a file.
-ghost use Rattle.std.specs.Prelude.{◌≡◌};
+ghost use Rattle.std.specs.Prelude.{◌≡◌, false, is_ok};
 ghost use Rattle.book.specs.Posting.{accounts_of};
 ghost use Rattle.sale.specs.Lives.{life_of};
 ghost use Rattle.report.specs.Lines.{not_opened_text, told_text};
-ghost use Rattle.report.specs.Reports.{text_of};
+ghost use Rattle.report.specs.Reports.{text_of, is_of_closed};
 
 use crate::reports::Report;
 use book::Answer;
@@ -13,7 +13,8 @@ use session::Session;
 impl<'a> Report<'a> {
     // The report of a sale that is not opened.
     pub fn of_refusal(refusal: OpeningRefusal) -> Report<'a>
-        ensures { text_of result ≡ not_opened_text refusal }
+        ensures text { text_of result ≡ not_opened_text refusal }
+        ensures closed { is_of_closed result ≡ false }
     {
         Report::NotOpened(refusal)
     }
@@ -25,7 +26,8 @@ impl<'a> Report<'a> {
         award: &'a [u64],
         charges: &'a [u64],
     ) -> Report<'a>
-        ensures { text_of result ≡ told_text session.now.closing answers.now award.now charges.now (accounts_of (life_of session.now.sale).state.entries) (life_of session.now.sale).state.company }
+        ensures text { text_of result ≡ told_text session.now.closing answers.now award.now charges.now (accounts_of (life_of session.now.sale).state.entries) (life_of session.now.sale).state.company }
+        ensures closed { is_of_closed result ≡ is_ok session.now.closing }
     {
         match session.closing {
             Ok(worth) => Report::Closed {
@@ -37,6 +39,16 @@ impl<'a> Report<'a> {
                 company: session.sale.company(),
             },
             Err(refusal) => Report::NotClosed { answers, refusal },
+        }
+    }
+
+    // Whether the sale is closed.
+    pub fn is_closed(&self) -> bool
+        ensures { result ≡ is_of_closed self.now }
+    {
+        match self {
+            Report::Closed { .. } => true,
+            Report::NotOpened(_) | Report::NotClosed { .. } => false,
         }
     }
 }

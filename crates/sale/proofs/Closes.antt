@@ -1,19 +1,19 @@
 -- What stands of a sale from its opening to its close. Assumes nothing.
-use Rattle.std.proofs.Common.{◌≡◌, ℕ, zero, suc, ◌+◌, ◌*◌, Bool, true, false, cond, eqb, ltb, List, [], ◌∷◌, map, length, get_or, is_ok, Ok, Err, sum, Result, sym, refl, ap, ◌∙◌, subst, arith}
-use Rattle.std.proofs.lemmas.List.{length-map}
+use Rattle.std.proofs.Common.{◌≡◌, ℕ, ◌+◌, Bool, true, false, cond, List, map, length, get_or, is_ok, Ok, Err, sum, Result, sym, ap, ◌∙◌, arith}
+use Rattle.std.proofs.Math.ListN.{get_or-map}
+use Rattle.std.proofs.lemmas.List.{length-map, map-id}
+use Rattle.std.proofs.lemmas.Simd.{map-map}
 use Rattle.std.proofs.lemmas.Bool.{cond-true}
+use Rattle.std.proofs.lemmas.Bool.Decides.{nat_tests}
 use Rattle.bundle.specs.Units.{bundles}
-use Rattle.bundle.proofs.Checks.{cond_ok, cond_past}
 use Rattle.vcg.specs.Best.{worth_of}
-use Rattle.vcg.specs.Charges.{Settled}
 use Rattle.vcg.specs.Optimum.{best_worth}
 use Rattle.vcg.proofs.Optimal.{award-worth}
 use Rattle.award.specs.Deciding.{decision}
 use Rattle.award.specs.declared.refusals.AwardRefusal.{AwardRefusal}
-use Rattle.award.specs.declared.refusals.AwardRefusal.TheVariants.{Farms, Table, Award, Charges}
 use Rattle.award.proofs.Reserves.{sale_is_settled}
 use Rattle.book.specs.Places.{AllAllowed}
-use Rattle.book.specs.Posting.{no_entry, fresh, accounts_of, bids_in}
+use Rattle.book.specs.Posting.{Entry, fresh, accounts_of, bids_in}
 use Rattle.book.proofs.Allows.{always_allowed}
 use Rattle.book.proofs.Orders as orders
 use Rattle.book.proofs.Steps.{accounts_posts, length-posts}
@@ -35,8 +35,7 @@ module _ (lots : List Lot) (accounts : List ℕ) (company : ℕ) (ms : List (Lis
   allowed = always_allowed posted.supply accounts ms
 
   accounts_fresh : (xs : List ℕ) → accounts_of (map fresh xs) ≡ xs
-  accounts_fresh [] = refl
-  accounts_fresh (x ∷ xs) = ap (λ l. x ∷ l) (accounts_fresh xs)
+  accounts_fresh xs = map-map (λ (e : Entry). e.account) fresh xs ∙ map-id xs
 
   -- messages leave the accounts
   accounts_are : accounts_of posted.entries ≡ accounts
@@ -86,33 +85,20 @@ order_free lots accounts company ms ns rows shuffled one =
     λ i. record { supply = home.supply; reserve = home.reserve; entries = orders.order_free home.supply (map fresh accounts) ms ns shuffled one i; company = company } in
     (ap (λ (h : State). close_sale h rows) same, ap (λ (h : State). close_rows h rows) same)
 
-place-fresh : (xs : List ℕ) (i : ℕ) → get_or (map fresh xs) i no_entry ≡ fresh (get_or xs i 0)
-place-fresh [] i = refl
-place-fresh (x ∷ xs) zero = refl
-place-fresh (x ∷ xs) (suc i) = place-fresh xs i
-
 pub told_own : ToldOwn
 told_own lots xs ys c d ms ns i long account same =
     tells.told_own (opened lots xs c).supply (map fresh xs) (map fresh ys) i ms ns
     (length-map xs fresh ∙ long ∙ sym (length-map ys fresh))
-    (place-fresh xs i ∙ ap fresh account ∙ sym (place-fresh ys i))
+    (get_or-map fresh xs i 0 ∙ ap fresh account ∙ sym (get_or-map fresh ys i 0))
     same
 
 -- what is answered to a close that is taken
 worth_back : (r : Result ℕ AwardRefusal) (n w : ℕ) → worth_or_row (settlement r n) ≡ Ok w → r ≡ Ok w
 worth_back (Ok v) n w e = cc
-worth_back (Err d) n w e = absurd (let z : ◌≡◌ {A = ℕ} 0 1 = cc in omega arith)
-
-ok_under : {A E : Type 0} (b : Bool) (r : Result A E) (d : E) (y : A) → cond b r (Err d) ≡ Ok y → r ≡ Ok y
-ok_under true r d y e = e
-ok_under false r d y e = absurd (let z : ◌≡◌ {A = ℕ} 0 1 = cc in omega arith)
+worth_back (Err d) n w e = cc
 
 decided : (farms many t a c w v : ℕ) → decision farms many t a c w ≡ Ok v → v ≡ w
-decided farms many t a c w v e =
-    let x = (cond_past (ltb 48 farms) Farms _ v e).1 in
-    let y = (cond_past (ltb t ((farms + 1) * many)) Table _ v x).1 in
-    let z = ok_under (eqb a farms) _ Award v y in
-    sym (cond_ok (eqb c farms) w Charges v z).1
+decided farms many t a c w v e = grind (arith, nat_tests)
 
 pub closed_by_rule : ClosedByRule
 closed_by_rule h rows worth e =
@@ -122,6 +108,6 @@ closed_by_rule h rows worth e =
     (worth_back _ (sum (charges_for h.supply h.reserve h.entries)) worth e) in
     let end : close_rows h rows ≡ filled a rows = cond-true _ _ _ (ap is_ok e) in
     record {
-      settled = subst (λ (r : Rows). Settled a (record { choice = r.award; charge = r.charges })) (sym end) (sale_is_settled h.supply h.reserve (bids_in h.entries));
+      settled = rw end (sale_is_settled h.supply h.reserve (bids_in h.entries));
       is = best ∙ sym (award-worth a) ∙ ap (λ (r : Rows). worth_of a r.award) (sym end);
     }

@@ -1,3 +1,2 @@
 pub mod Closes
-pub mod Copies
 pub mod Openings

@@ -1,5 +1,6 @@
 -- How a sale is closed. Assumes nothing: these are definitions.
-use Rattle.std.specs.Prelude.{ℕ, ◌+◌, Bool, true, false, cond, List, is_ok, Ok, Err, sum, Result}
+use Rattle.std.specs.Prelude.{ℕ, ◌+◌, Bool, true, false, cond, List, is_ok, sum, Result}
+use Rattle.std.specs.Result.{result_map_both}
 use Rattle.vcg.specs.Auction.{Auction}
 use Rattle.award.specs.declared.refusals.AwardRefusal.{AwardRefusal}
 use Rattle.award.specs.declared.refusals.AwardRefusal.TheVariants.{Farms, Table, Award, Charges}
@@ -17,8 +18,7 @@ row_refused Award = Row 1
 row_refused Charges = Row 2
 
 abbrev pub worth_or_row : Result Settlement AwardRefusal → Result ℕ ClosingRefusal
-worth_or_row (Ok s) = Ok s.worth
-worth_or_row (Err e) = Err (row_refused e)
+worth_or_row r = result_map_both (λ (s : Settlement). s.worth) row_refused r
 
 -- the worth of the award, or which of the lent rows is wrong
 abbrev pub close_answer : State → Rows → Result ℕ ClosingRefusal

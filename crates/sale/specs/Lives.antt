@@ -2,7 +2,7 @@
 use Rattle.std.specs.Prelude.{ℕ, true, false, cond, List, [], ◌∷◌, Ok, Err, Result}
 use Rattle.bundle.specs.Reserves.{prices_of}
 use Rattle.book.specs.Books.{entries_of, book_supply}
-use Rattle.book.specs.declared.answers.Answer.{Answer}
+use Rattle.book.specs.Posting.{Reply}
 use Rattle.accounts.specs.Closing.{Rows}
 use Rattle.sale.specs.Closing.{Stage, close_answer, close_sale, close_rows}
 use Rattle.sale.specs.Opening.{State}
@@ -21,7 +21,7 @@ life_of (life.Open s) = record { state = state_of s; closed = false }
 life_of (life.Closed s) = record { state = closed_state_of s; closed = true }
 
 -- what is answered to a message; a closed sale takes none
-abbrev pub life_reply : Stage → List ℕ → Result Answer ClosingRefusal
+abbrev pub life_reply : Stage → List ℕ → Result Reply ClosingRefusal
 life_reply s m = cond s.closed (Err (Closed 0)) (Ok (reply s.state m))
 
 -- the sale after it

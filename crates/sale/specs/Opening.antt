@@ -1,8 +1,10 @@
 -- How a sale is opened, check by check. Assumes nothing: these are definitions and a statement.
-use Rattle.std.specs.Prelude.{◌≡◌, ℕ, ◌+◌, ◌≤◌, cond, ◌||◌, List, [], ◌∷◌, map, length, Some, None, Ok, Err, Option, Result, ◌==◌, nat_lt, slice_index}
+use Rattle.std.specs.Prelude.{◌≡◌, ℕ, ◌≤◌, cond, ◌||◌, List, map, length, position, Some, None, Ok, Err, Option, Result, ◌==◌, nat_lt, slice_index}
+use Rattle.std.specs.Result.{result_map_both}
 use Rattle.bundle.specs.Checks.{and_then}
 use Rattle.bundle.specs.Reserves.{reserve_in}
 use Rattle.bundle.specs.Supplies.{Sold, supply_in}
+use Rattle.bundle.specs.declared.refusals.ReserveRefusal.{ReserveRefusal}
 use Rattle.bundle.specs.declared.refusals.SupplyRefusal.{SupplyRefusal}
 use Rattle.bundle.specs.declared.refusals.SupplyRefusal.TheVariants.{LotCount as NoSupply, Lot as WrongLot}
 use Rattle.book.specs.Posting.{Entry, fresh}
@@ -27,31 +29,31 @@ abbrev pub supply_refused : SupplyRefusal → OpeningRefusal
 supply_refused NoSupply = LotCount 0
 supply_refused (WrongLot j) = Supply j
 
+abbrev pub price_refused : ReserveRefusal → OpeningRefusal
+price_refused e = Price e.lot
+
 -- the supply, of 1 to 12 lots
 abbrev pub lots_checked : Result (List ℕ) SupplyRefusal → Result (List ℕ) OpeningRefusal
-lots_checked (Ok us) = Ok us
-lots_checked (Err e) = Err (supply_refused e)
+lots_checked r = result_map_both (λ us. us) supply_refused r
 
 -- the reserve of each lot
-abbrev pub prices_checked : Result (List ℕ) ℕ → Result (List ℕ) OpeningRefusal
-prices_checked (Ok ps) = Ok ps
-prices_checked (Err j) = Err (Price j)
+abbrev pub prices_checked : Result (List ℕ) ReserveRefusal → Result (List ℕ) OpeningRefusal
+prices_checked r = result_map_both (λ ps. ps) price_refused r
 
 -- 1 to 48 farms
 abbrev pub farms_checked : List ℕ → Result (List ℕ) OpeningRefusal
 farms_checked accounts = cond (length accounts == 0 || nat_lt 48 (length accounts)) (Err (FarmCount 0)) (Ok accounts)
 
--- the first account, counted from i, that is above 1,000,000,000
-abbrev pub overfull : List ℕ → ℕ → Option ℕ
-overfull [] i = None
-overfull (a ∷ rest) i = cond (nat_lt 1000000000 a) (Some i) (overfull rest (i + 1))
+-- the first account that is above 1,000,000,000
+abbrev pub overfull : List ℕ → Option ℕ
+overfull accounts = position (nat_lt 1000000000) accounts
 
 abbrev pub full_but : Option ℕ → List ℕ → Result (List ℕ) OpeningRefusal
 full_but None accounts = Ok accounts
 full_but (Some i) accounts = Err (Account i)
 
 abbrev pub accounts_checked : List ℕ → Result (List ℕ) OpeningRefusal
-accounts_checked accounts = full_but (overfull accounts 0) accounts
+accounts_checked accounts = full_but (overfull accounts) accounts
 
 -- the company's account, at most 10^15
 abbrev pub company_checked : ℕ → Result ℕ OpeningRefusal

@@ -2,8 +2,7 @@
 use Rattle.std.specs.Prelude.{ℕ, List}
 use Rattle.bundle.specs.Reserves.{prices_of}
 use Rattle.book.specs.Books.{entries_of, book_supply}
-use Rattle.book.specs.Posting.{posts, read_for, answer_of, answers}
-use Rattle.book.specs.declared.answers.Answer.{Answer}
+use Rattle.book.specs.Posting.{Reply, posts, read_for, answer_of, answers}
 use Rattle.sale.specs.Opening.{State}
 use Rattle.sale.specs.declared.state.Sale.{Sale}
 
@@ -15,9 +14,9 @@ abbrev pub after : State → List (List ℕ) → State
 after h ms = record { supply = h.supply; reserve = h.reserve; entries = posts h.supply h.entries ms; company = h.company }
 
 -- what is answered to a message
-abbrev pub reply : State → List ℕ → Answer
+abbrev pub reply : State → List ℕ → Reply
 reply h m = answer_of (read_for h.supply h.entries m)
 
 -- and to each of several
-abbrev pub replies : State → List (List ℕ) → List Answer
+abbrev pub replies : State → List (List ℕ) → List Reply
 replies h ms = answers h.supply h.entries ms

@@ -1,6 +1,7 @@
 // A sale: opened with its lots, reserves and accounts, changed by messages, and closed.
 #![tactic(auto)]
 
+mod conversions;
 mod life;
 mod lots;
 mod numbers;

@@ -2,7 +2,7 @@
 ghost use Rattle.std.specs.Prelude.{◌≡◌};
 ghost use Rattle.book.specs.Posting.{accounts_of};
 ghost use Rattle.accounts.specs.Closing.{lent};
-ghost use Rattle.sale.specs.Closing.{row_refused, close_answer, close_sale, close_rows};
+ghost use Rattle.sale.specs.Closing.{close_answer, close_sale, close_rows};
 ghost use Rattle.sale.specs.Lives.{life_of, life_reply, life_next, life_answer, life_close, life_rows};
 ghost use Rattle.sale.specs.States.{state_of};
 
@@ -10,18 +10,7 @@ use crate::refusals::ClosingRefusal;
 use crate::stages::{ClosedSale, Life};
 use crate::state::Sale;
 use accounts::close;
-use award::AwardRefusal;
 use book::Answer;
-
-fn row_refused(refusal: AwardRefusal) -> ClosingRefusal
-    ensures { result ≡ row_refused refusal }
-{
-    match refusal {
-        AwardRefusal::Farms | AwardRefusal::Table => ClosingRefusal::Row(0),
-        AwardRefusal::Award => ClosingRefusal::Row(1),
-        AwardRefusal::Charges => ClosingRefusal::Row(2),
-    }
-}
 
 impl Sale {
     // Closes the sale, and answers what the award is worth: the table, the award and the charges stand in the lent rows, each charge is taken
@@ -37,6 +26,7 @@ impl Sale {
         ensures rows { lent table.new award.new charges.new ≡ close_rows (state_of self) (lent table.old award.old charges.old) }
     {
         let (book, answer) = close(self.book, &self.reserve, table, award, charges);
+        // No `?`: the sale is handed back with either answer.
         match answer {
             Ok(settlement) => {
                 let sale = ClosedSale {
@@ -46,7 +36,7 @@ impl Sale {
                 };
                 (Life::Closed(sale), Ok(settlement.worth))
             }
-            Err(refusal) => (Life::Open(self), Err(row_refused(refusal))),
+            Err(refusal) => (Life::Open(self), Err(ClosingRefusal::from(refusal))),
         }
     }
 }

@@ -1,13 +1,15 @@
 // The number and the place of a refusal.
-ghost use Rattle.std.specs.Prelude.{◌≡◌};
 ghost use Rattle.sale.specs.Numbers.{opening_number, opening_place, closing_number, closing_place};
 
 use crate::refusals::{ClosingRefusal, OpeningRefusal};
+use sheets::Refusal;
 
-impl OpeningRefusal {
-    pub fn number(self) -> u8
-        ensures { result ≡ opening_number self }
-    {
+impl Refusal for OpeningRefusal {
+    ghost number_of = { opening_number };
+
+    ghost place_of = { opening_place };
+
+    fn number(self) -> u8 {
         match self {
             OpeningRefusal::LotCount(_) => 9,
             OpeningRefusal::Supply(_) => 10,
@@ -18,9 +20,7 @@ impl OpeningRefusal {
         }
     }
 
-    pub fn place(self) -> usize
-        ensures { result ≡ opening_place self }
-    {
+    fn place(self) -> usize {
         match self {
             OpeningRefusal::LotCount(place)
             | OpeningRefusal::Supply(place)
@@ -32,19 +32,19 @@ impl OpeningRefusal {
     }
 }
 
-impl ClosingRefusal {
-    pub fn number(self) -> u8
-        ensures { result ≡ closing_number self }
-    {
+impl Refusal for ClosingRefusal {
+    ghost number_of = { closing_number };
+
+    ghost place_of = { closing_place };
+
+    fn number(self) -> u8 {
         match self {
             ClosingRefusal::Closed(_) => 1,
             ClosingRefusal::Row(_) => 15,
         }
     }
 
-    pub fn place(self) -> usize
-        ensures { result ≡ closing_place self }
-    {
+    fn place(self) -> usize {
         match self {
             ClosingRefusal::Closed(place) | ClosingRefusal::Row(place) => place,
         }

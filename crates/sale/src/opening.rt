@@ -1,18 +1,16 @@
 // Opens a sale. The checks stand in the order in which an opening is checked.
-ghost use Rattle.std.specs.Prelude.{◌≡◌, ◌≤◌, [], ◌∷◌, length, take, OnOk};
+ghost use Rattle.std.specs.Prelude.{◌≡◌, ◌≤◌, [], ◌∷◌, map, length, take};
+ghost use Rattle.std.specs.Fn.{FnReturnsAt};
 ghost use Rattle.bundle.specs.Checks.{viewed};
-ghost use Rattle.bundle.specs.Reserves.{prices_of, reserve_in};
-ghost use Rattle.bundle.specs.Stocks.{supply_of};
-ghost use Rattle.bundle.specs.Supplies.{supply_in};
 ghost use Rattle.book.specs.Books.{standing};
 ghost use Rattle.sale.specs.States.{state_of, after, reply};
-ghost use Rattle.sale.specs.Opening.{units_of_lots, prices_of_lots, supply_refused, lots_checked, prices_checked, overfull, open_sale};
+ghost use Rattle.sale.specs.Opening.{overfull, open_sale};
 
 use crate::lots::Lot;
 use crate::refusals::OpeningRefusal;
 use crate::state::Sale;
 use book::{Answer, Book};
-use bundle::{Reserve, Supply, SupplyRefusal};
+use bundle::{Reserve, Supply};
 
 const MAX_LOTS: usize = 12;
 
@@ -21,76 +19,26 @@ const MAX_ACCOUNT: u64 = 1_000_000_000;
 
 const MAX_COMPANY: u64 = 1_000_000_000_000_000;
 
-// The units of each of at most twelve lots.
-fn units_of(lots: &[Lot]) -> [u8; 12]
-    requires { length lots.now ≤ 12 }
-    ensures { take (length lots.now) result ≡ units_of_lots lots.now }
+// A part of each of at most twelve lots, by the closure.
+fn column<T: Copy + Default, F: Fn(&Lot) -> T>(lots: &[Lot], part: F) -> [T; 12]
+    ghost of: { Lot → T }
+    requires few { length lots.now ≤ 12 }
+    requires callable { F.IsAlwaysCallable part }
+    requires gives { (l : Lot) (t : T) → FnReturnsAt F.Fn part l t → t ≡ of l }
+    ensures { take (length lots.now) result ≡ map of lots.now }
 {
-    let mut units = [0; 12];
-    for lot in 0..lots.len() {
-        units[lot] = lots[lot].units;
+    let mut column = [T::default(); 12];
+    for (place, lot) in lots.iter().enumerate() {
+        column[place] = part(lot);
     }
-    units
-}
-
-// The reserve of each of at most twelve lots.
-fn prices_of(lots: &[Lot]) -> [u32; 12]
-    requires { length lots.now ≤ 12 }
-    ensures { take (length lots.now) result ≡ prices_of_lots lots.now }
-{
-    let mut prices = [0; 12];
-    for lot in 0..lots.len() {
-        prices[lot] = lots[lot].reserve;
-    }
-    prices
-}
-
-fn refused_by(refusal: SupplyRefusal) -> OpeningRefusal
-    ensures { result ≡ supply_refused refusal }
-{
-    match refusal {
-        SupplyRefusal::LotCount => OpeningRefusal::LotCount(0),
-        SupplyRefusal::Lot(lot) => OpeningRefusal::Supply(lot),
-    }
-}
-
-// The supply of the lots.
-fn check_supply(lots: &[Lot]) -> Result<Supply, OpeningRefusal>
-    ensures value { viewed supply_of result ≡ lots_checked (supply_in (units_of_lots lots.now)) }
-    ensures few { OnOk result (length lots.now ≤ 12) }
-{
-    if lots.len() > MAX_LOTS {
-        return Err(OpeningRefusal::LotCount(0));
-    }
-    let units = units_of(lots);
-    match Supply::new(&units[0..lots.len()]) {
-        Ok(supply) => Ok(supply),
-        Err(refusal) => Err(refused_by(refusal)),
-    }
-}
-
-// The reserve of the lots.
-fn check_prices(lots: &[Lot]) -> Result<Reserve, OpeningRefusal>
-    requires { length lots.now ≤ 12 }
-    ensures { viewed prices_of result ≡ prices_checked (reserve_in (prices_of_lots lots.now)) }
-{
-    let prices = prices_of(lots);
-    match Reserve::new(&prices[0..lots.len()]) {
-        Ok(reserve) => Ok(reserve),
-        Err(lot) => Err(OpeningRefusal::Price(lot)),
-    }
+    column
 }
 
 // The first farm whose account is above 1,000,000,000.
 fn overfull_account(accounts: &[u64]) -> Option<usize>
-    ensures { result ≡ overfull accounts.now 0 }
+    ensures { result ≡ overfull accounts.now }
 {
-    for farm in 0..accounts.len() {
-        if accounts[farm] > MAX_ACCOUNT {
-            return Some(farm);
-        }
-    }
-    None
+    accounts.iter().position(|account| *account > MAX_ACCOUNT)
 }
 
 impl Sale {
@@ -98,8 +46,13 @@ impl Sale {
     pub fn open(lots: &[Lot], accounts: &[u64], company: u64) -> Result<Sale, OpeningRefusal>
         ensures { viewed state_of result ≡ open_sale lots.now accounts.now company }
     {
-        let supply = check_supply(lots)?;
-        let reserve = check_prices(lots)?;
+        if lots.len() > MAX_LOTS {
+            return Err(OpeningRefusal::LotCount(0));
+        }
+        let units = column(lots, |lot| lot.units);
+        let prices = column(lots, |lot| lot.reserve);
+        let supply = Supply::new(&units[0..lots.len()])?;
+        let reserve = Reserve::new(&prices[0..lots.len()])?;
         let Some(book) = Book::open(supply, accounts) else {
             return Err(OpeningRefusal::FarmCount(0));
         };
@@ -117,17 +70,13 @@ impl Sale {
     }
 
     // The sale after a message, and what is told of it.
-    pub fn post(self, bytes: &[u8]) -> (Sale, Answer)
+    pub fn post(mut self, bytes: &[u8]) -> (Sale, Answer)
         ensures state { state_of result.0 ≡ after (state_of self) (bytes.now ∷ []) }
         ensures answer { result.1 ≡ reply (state_of self) bytes.now }
     {
         let (book, answer) = self.book.post(bytes);
-        let sale = Sale {
-            book,
-            reserve: self.reserve,
-            company: self.company,
-        };
-        (sale, answer)
+        self.book = book;
+        (self, answer)
     }
 
     // How many farms have a sheet with at least one line.

@@ -4,6 +4,7 @@ use book::Book;
 use bundle::Reserve;
 
 // What a sale holds once it is closed: no sheets, each account less its charge, and the company's account with all charges.
+// A type of its own, since that account may then be above 10^15.
 #[derive(Clone, Copy)]
 pub struct ClosedSale {
     pub(crate) book: Book,

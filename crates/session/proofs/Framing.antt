@@ -1,11 +1,11 @@
 -- How a file falls into messages, message by message. Assumes nothing.
-use Rattle.std.proofs.Common.{◌≡◌, ℕ, zero, suc, ◌+◌, ◌*◌, ◌/◌, ◌%◌, ◌≤◌, List, [], ◌∷◌, ◌++◌, length, get_or, take, drop, sym, refl, ap, ◌∙◌, arith}
-use Rattle.std.proofs.lemmas.List.{append_assoc, length-drop, take_at, drop_at, drop-drop, drop_more, drop_all, at_drop_all}
+use Rattle.std.proofs.Common.{◌≡◌, ℕ, zero, suc, ◌+◌, ◌*◌, ◌/◌, ◌%◌, ◌<◌, ◌≤◌, min, List, [], ◌∷◌, ◌++◌, length, get_or, take, drop, sym, refl, ap, ◌∙◌, arith}
+use Rattle.std.proofs.lemmas.List.{append_assoc, length-drop, take_at, drop_at, take_min, drop_min}
 use Rattle.std.specs.List.{flat_map}
 use Rattle.session.specs.Frames.{frames, messages, framed, FramesBack}
 
 -- how many messages are asked for does not matter, if there are no more bytes
-pub frames_enough : (n k : ℕ) (bs : List ℕ) → length bs ≤ n → length bs ≤ k → frames n bs ≡ frames k bs
+frames_enough : (n k : ℕ) (bs : List ℕ) → length bs ≤ n → length bs ≤ k → frames n bs ≡ frames k bs
 unfolding frames
 frames_enough zero zero bs h g = refl
 frames_enough zero (suc k) [] h g = refl
@@ -19,7 +19,7 @@ frames_enough (suc n) (suc k) (a ∷ b ∷ bs) h g =
     ap (λ l. take (a + b * 256) bs ∷ l) (frames_enough n k (drop (a + b * 256) bs) (omega arith) (omega arith))
 
 -- the first message, and the others
-pub messages_more : (a b : ℕ) (bs : List ℕ) → messages (a ∷ b ∷ bs) ≡ take (a + b * 256) bs ∷ messages (drop (a + b * 256) bs)
+messages_more : (a b : ℕ) (bs : List ℕ) → messages (a ∷ b ∷ bs) ≡ take (a + b * 256) bs ∷ messages (drop (a + b * 256) bs)
 unfolding frames
 messages_more a b bs =
     let left = length-drop (a + b * 256) bs in
@@ -38,26 +38,28 @@ frames_back (m ∷ ms) rest =
     ∙ messages-framed m (flat_map framed ms ++ rest) (length m % 256) (length m / 256) (omega arith)
     ∙ ap (λ l. m ∷ l) (frames_back ms rest)
 
--- a file from its byte p on: no message after its end
-pub messages_end : (bs : List ℕ) (p : ℕ) → length bs ≤ p → messages (drop p bs) ≡ []
+-- no message where no byte is left
+pub messages_none : (bs : List ℕ) → length bs < 1 → messages bs ≡ []
 unfolding frames
-messages_end bs p h = at_drop_all messages bs p h
+messages_none [] h = refl
+messages_none (a ∷ bs) h = absurd (omega arith)
 
 -- an empty one where one byte is left
-pub messages_cut : (bs : List ℕ) (p : ℕ) → length bs ≡ p + 1 → messages (drop p bs) ≡ [] ∷ []
+pub messages_cut : (bs : List ℕ) → 1 ≤ length bs → length bs < 2 → messages bs ≡ [] ∷ messages []
 unfolding frames
-messages_cut bs p h = ap messages (drop_more bs p 0 (omega arith)) ∙ rw (drop_all (p + 1) bs (omega arith))
+messages_cut [] h g = absurd (omega arith)
+messages_cut (a ∷ []) h g = refl
+messages_cut (a ∷ b ∷ bs) h g = absurd (omega arith)
 
--- and else one with its length
-pub messages-next : (bs : List ℕ) (p n : ℕ) → p + 2 ≤ length bs → n ≡ get_or bs p 0 + get_or bs (p + 1) 0 * 256 →
-    messages (drop p bs) ≡ take n (drop (p + 2) bs) ∷ messages (drop (p + 2 + n) bs)
-messages-next bs p n h e =
-    let two : p + 1 + 1 ≡ p + 2 = omega arith in
-    ap messages (drop_more bs p 0 (omega arith) ∙ ap (λ l. get_or bs p 0 ∷ l) (drop_more bs (p + 1) 0 (omega arith)))
-    ∙ messages_more (get_or bs p 0) (get_or bs (p + 1) 0) (drop (p + 1 + 1) bs)
-    ∙ rw (← e, drop-drop n (p + 1 + 1) bs, two)
+-- and else one with its length, or with as many bytes as there are
+pub messages_next : (bs rest : List ℕ) (n : ℕ) → 2 ≤ length bs → rest ≡ drop 2 bs → n ≡ min (get_or bs 0 0 + get_or bs 1 0 * 256) (length rest) →
+    messages bs ≡ take n rest ∷ messages (drop n rest)
+messages_next [] rest n h r e = absurd (omega arith)
+messages_next (a ∷ []) rest n h r e = absurd (omega arith)
+messages_next (a ∷ b ∷ bs) rest n h r e =
+    messages_more a b bs ∙ rw (e, r, take_min (a + b * 256) bs, drop_min (a + b * 256) bs) refl
 
--- there are no more messages than are asked for
+-- there are no more messages than bytes
 length-frames : (n : ℕ) (bs : List ℕ) → length (frames n bs) ≤ n
 unfolding frames
 length-frames zero bs = omega arith

@@ -3,5 +3,4 @@ pub mod Filing
 pub mod Framing
 pub mod Rows
 pub mod Samples
-pub mod Walks
 pub mod Truths

@@ -1,4 +1,5 @@
 -- The sample by computation. Assumes nothing.
+use Rattle.std.specs.Prelude.{⊤}
 use Rattle.std.proofs.Common.{ℕ, [], ◌∷◌, refl}
 use Rattle.bundle.specs.Reserves.{priced}
 use Rattle.bundle.specs.Units.{less, within, bundles, bundle_at}
@@ -14,6 +15,11 @@ use Rattle.session.specs.Frames.{frames}
 use Rattle.session.specs.Samples.{sample_lots, sample_accounts, one_bid, sample_rows, SampleCloses, SamplesClose}
 use Rattle.session.specs.Session.{lots_at, accounts_at}
 
+-- what unfolds to compute the sample
+unfoldable on_samples : ⊤
+unfolding priced less within bundles bundle_at units_in lines_in chosen best_among optimum first_among pick award charge_at rows frames lots_at accounts_at
+on_samples = tt
+
 -- what the run leaves where farm 1 states this worth
 abbrev left_by : ℕ → CloseOutcome
 left_by value =
@@ -22,15 +28,15 @@ left_by value =
     close_outcome (record { state = after h ms; told = replies h ms }) sample_rows
 
 closes_70 : SampleCloses 70 110
-unfolding priced less within bundles bundle_at units_in lines_in chosen best_among optimum first_among pick award charge_at rows frames lots_at accounts_at
+unfolding on_samples
 closes_70 = record { outcome = left_by 70; closes = record { runs = refl; closed = refl; last = record { taken = refl; last = tt } }; has = refl }
 
 closes_100 : SampleCloses 100 110
-unfolding priced less within bundles bundle_at units_in lines_in chosen best_among optimum first_among pick award charge_at rows frames lots_at accounts_at
+unfolding on_samples
 closes_100 = record { outcome = left_by 100; closes = record { runs = refl; closed = refl; last = record { taken = refl; last = tt } }; has = refl }
 
 closes_40 : SampleCloses 40 100
-unfolding priced less within bundles bundle_at units_in lines_in chosen best_among optimum first_among pick award charge_at rows frames lots_at accounts_at
+unfolding on_samples
 closes_40 = record { outcome = left_by 40; closes = record { runs = refl; closed = refl; last = record { taken = refl; last = tt } }; has = refl }
 
 pub samples_close : SamplesClose

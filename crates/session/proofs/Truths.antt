@@ -1,5 +1,5 @@
 -- Of two files that differ in the last taken message of a farm, the one with the true sheet leaves it no worse off. Assumes nothing.
-use Rattle.std.proofs.Common.{◌≡◌, ℕ, ◌+◌, ◌^◌, ◌<◌, ◌≤◌, List, [], ◌∷◌, ◌++◌, get_or, is_ok, sym, ap, ◌∙◌, subst, append_assoc}
+use Rattle.std.proofs.Common.{◌≡◌, ℕ, ◌+◌, ◌^◌, ◌<◌, List, [], ◌∷◌, ◌++◌, get_or, is_ok, sym, ap, ◌∙◌, append_assoc}
 use Rattle.std.specs.List.{flat_map, AllByRecursion}
 use Rattle.bundle.specs.Bids.{Bids}
 use Rattle.bundle.proofs.Checks.{then_back}
@@ -77,5 +77,4 @@ true_file_is_best lots accounts company before m n rest rows s t o p value price
     let other = wealth-is lots accounts company priced held small before n rest rows t p value second in
     let there : wealth_after p t.farm t.bids value ≡ wealth h.supply h.reserve (posts h.supply h.entries (before ++ n ∷ messages rest)) value s.farm =
     other ∙ ap (λ i. wealth h.supply h.reserve (posts h.supply h.entries (before ++ n ∷ messages rest)) value i) (sym same) in
-    subst (λ (x : ℕ). x ≤ wealth_after o s.farm s.bids value) (sym there)
-    (subst (λ (x : ℕ). wealth h.supply h.reserve (posts h.supply h.entries (before ++ n ∷ messages rest)) value s.farm ≤ x) (sym mine) best)
+    rw (there, mine) best

@@ -1,7 +1,7 @@
 -- The run over a file to the close: the opening, then the messages, then the close. Assumes nothing: these are definitions.
 use Rattle.std.specs.Prelude.{ℕ, cond, List, length, Ok, Err, Result, nat_lt}
 use Rattle.bundle.specs.Checks.{and_then}
-use Rattle.book.specs.declared.answers.Answer.{Answer}
+use Rattle.book.specs.Posting.{Reply}
 use Rattle.accounts.specs.Closing.{Rows}
 use Rattle.sale.specs.Closing.{Stage, close_answer, close_sale, close_rows}
 use Rattle.sale.specs.Lives.{life_of}
@@ -14,7 +14,7 @@ use Rattle.session.specs.declared.refusals.RunRefusal.TheVariants.{Opening, Room
 
 -- what the run leaves: what is answered to each message, the sale and the lent rows after the close, and what is answered to the close
 pub record CloseOutcome : Type 0 where
-  pub told : List Answer
+  pub told : List Reply
   pub stage : Stage
   pub rows : Rows
   pub answer : Result ℕ ClosingRefusal

@@ -1,6 +1,5 @@
 pub mod Files
 pub mod Frames
-pub mod Parts
 pub mod Session
 pub mod Closing
 pub mod Promises

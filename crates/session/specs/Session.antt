@@ -2,7 +2,7 @@
 use Rattle.std.specs.Prelude.{ℕ, zero, suc, ◌+◌, ◌*◌, cond, List, [], ◌∷◌, ◌++◌, length, drop, Ok, Err, Result, nat_lt, slice_index}
 use Rattle.bundle.specs.Checks.{and_then}
 use Rattle.sheets.specs.Reading.{u32_at}
-use Rattle.book.specs.declared.answers.Answer.{Answer}
+use Rattle.book.specs.Posting.{Reply}
 use Rattle.sale.specs.States.{after, replies}
 use Rattle.sale.specs.Opening.{State, open_sale}
 use Rattle.sale.specs.declared.lots.Lot.{Lot}
@@ -15,6 +15,10 @@ use Rattle.session.specs.declared.refusals.RunRefusal.TheVariants.{Opening, Room
 -- the number in eight bytes at p, low byte first
 abbrev pub u64_at : List ℕ → ℕ → ℕ
 u64_at bs p = u32_at bs p + u32_at bs (p + 4) * 4294967296
+
+-- a lot in five bytes: a byte of units and four bytes of reserve
+abbrev pub lot_in : List ℕ → Lot
+lot_in bs = record { units = slice_index bs 0; reserve = u32_at bs 1 }
 
 -- n lots from p on: a byte of units and four bytes of reserve each
 unfoldable pub lots_at : List ℕ → ℕ → ℕ → List Lot
@@ -50,7 +54,7 @@ messages_in bs = messages (drop (opening_size bs) bs)
 -- what the run leaves: the sale after all messages, and what is answered to each
 pub record Outcome : Type 0 where
   pub state : State
-  pub told : List Answer
+  pub told : List Reply
 
 abbrev pub run : List ℕ → Result Outcome OpeningRefusal
 run bs = and_then (opening_in bs) (λ h. Ok (record { state = after h (messages_in bs); told = replies h (messages_in bs) }))
@@ -64,9 +68,9 @@ abbrev pub run_within : ℕ → List ℕ → Result State RunRefusal
 run_within room bs = cond (nat_lt room (length (messages_in bs))) (Err (Room (length (messages_in bs)))) (ran (run bs))
 
 -- what the row of answers holds then: the answers at its front; what is refused changes nothing
-abbrev pub noted : Result Outcome OpeningRefusal → List Answer → List Answer
+abbrev pub noted : Result Outcome OpeningRefusal → List Reply → List Reply
 noted (Ok o) row = o.told ++ drop (length o.told) row
 noted (Err e) row = row
 
-abbrev pub told_within : List Answer → List ℕ → List Answer
+abbrev pub told_within : List Reply → List ℕ → List Reply
 told_within row bs = cond (nat_lt (length row) (length (messages_in bs))) row (noted (run bs) row)

@@ -26,11 +26,7 @@ pub fn run_to_close(
     ensures rows { lent table.new award.new charges.new ≡ rows_within (length answers.old) file.now (lent table.old award.old charges.old) }
     ensures truthful { TrueFileIsBest }
 {
-    match run(file, answers) {
-        Ok(sale) => {
-            let (sale, closing) = sale.close(table, award, charges);
-            Ok(Session { sale, closing })
-        }
-        Err(refusal) => Err(refusal),
-    }
+    let sale = run(file, answers)?;
+    let (sale, closing) = sale.close(table, award, charges);
+    Ok(Session { sale, closing })
 }

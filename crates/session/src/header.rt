@@ -1,10 +1,12 @@
 // The opening of a file: a byte counts the lots, each lot has a byte of units and four bytes of reserve; a byte counts the farms,
 // each has four bytes of account; the last eight bytes are the company's account.
-ghost use Rattle.std.specs.Prelude.{◌≡◌, ◌+◌, ◌*◌, ◌≤◌, length, take, slice_index};
+ghost use Rattle.std.specs.Prelude.{◌≡◌, ◌+◌, ◌*◌, ◌<◌, ◌≤◌, map, length, take, drop, slice_index};
+ghost use Rattle.std.specs.Fn.{FnReturnsAt};
+ghost use Rattle.std.specs.Simd.{first_chunks};
 ghost use Rattle.bundle.specs.Checks.{viewed};
 ghost use Rattle.sheets.specs.Reading.{u32_at};
 ghost use Rattle.sale.specs.States.{state_of};
-ghost use Rattle.session.specs.Session.{u64_at, lots_at, accounts_at, lot_count, farm_count, opening_size, opening_in};
+ghost use Rattle.session.specs.Session.{u64_at, lot_in, lots_at, accounts_at, lot_count, farm_count, opening_size, opening_in};
 
 use sale::{Lot, OpeningRefusal, Sale};
 
@@ -17,35 +19,14 @@ const NO_LOT: Lot = Lot {
 fn byte_at(file: &[u8], at: usize) -> u8
     ensures { result ≡ slice_index file.now at }
 {
-    if at < file.len() { file[at] } else { 0 }
+    file.get(at).copied().unwrap_or(0)
 }
 
-fn number_at(file: &[u8], at: usize) -> u32
-    requires { at + 4 ≤ length file.now }
-    ensures { result ≡ u32_at file.now at }
-{
-    u32::from_le_bytes([file[at], file[at + 1], file[at + 2], file[at + 3]])
-}
-
-fn long_at(file: &[u8], at: usize) -> u64
-    requires { at + 8 ≤ length file.now }
-    ensures { result ≡ u64_at file.now at }
-{
-    number_at(file, at) as u64 + number_at(file, at + 4) as u64 * 4_294_967_296
-}
-
-fn count_lots(file: &[u8]) -> usize
+fn lot_count(file: &[u8]) -> usize
     ensures value { result ≡ lot_count file.now }
     ensures small { result ≤ 255 }
 {
     byte_at(file, 0) as usize
-}
-
-fn count_farms(file: &[u8]) -> usize
-    ensures value { result ≡ farm_count file.now }
-    ensures small { result ≤ 255 }
-{
-    byte_at(file, 1 + count_lots(file) * 5) as usize
 }
 
 // How many farms the file names.
@@ -53,43 +34,76 @@ pub fn farm_count(file: &[u8]) -> usize
     ensures value { result ≡ farm_count file.now }
     ensures small { result ≤ 255 }
 {
-    count_farms(file)
+    byte_at(file, 1 + lot_count(file) * 5) as usize
 }
 
 // How many bytes the opening has, or would have.
 pub(crate) fn size_of_opening(file: &[u8]) -> usize
     ensures { result ≡ opening_size file.now }
 {
-    2 + count_lots(file) * 5 + count_farms(file) * 4 + 8
+    2 + lot_count(file) * 5 + farm_count(file) * 4 + 8
+}
+
+// So many parts of N bytes, from `from` on.
+fn parts<const N: usize>(file: &[u8], from: usize, count: usize) -> &[[u8; N]]
+    requires some { 0 < N }
+    requires within { from + count * N ≤ length file.now }
+    ensures value { result.now ≡ first_chunks N count (drop from file.now) }
+    ensures len { length result.now ≡ count }
+{
+    file[from..from + count * N].as_chunks().0
+}
+
+// What `read` makes of each part, at the front of a row: an array, as a library takes no heap.
+fn read_row<P, T: Copy, F: Fn(&P) -> T>(parts: &[P], none: T, read: F) -> [T; 255]
+    ghost of: { P → T }
+    requires few { length parts.now ≤ 255 }
+    requires callable { F.IsAlwaysCallable read }
+    requires gives { (p : P) (t : T) → FnReturnsAt F.Fn read p t → t ≡ of p }
+    ensures { take (length parts.now) result ≡ map of parts.now }
+{
+    let mut row = [none; 255];
+    for (k, part) in parts.iter().enumerate() {
+        row[k] = read(part);
+    }
+    row
+}
+
+fn read_lot(part: &[u8; 5]) -> Lot
+    ensures { result ≡ lot_in part.now }
+{
+    let [units, a, b, c, d] = *part;
+    Lot {
+        units,
+        reserve: u32::from_le_bytes([a, b, c, d]),
+    }
+}
+
+fn read_account(part: &[u8; 4]) -> u64
+    ensures { result ≡ u32_at part.now 0 }
+{
+    u32::from_le_bytes(*part) as u64
 }
 
 fn read_lots(file: &[u8], count: usize) -> [Lot; 255]
     requires { (count ≤ 255) × (1 + count * 5 ≤ length file.now) }
     ensures { take count result ≡ lots_at file.now 1 count }
 {
-    let mut lots = [NO_LOT; 255];
-    let mut at = 1;
-    for k in 0..count {
-        lots[k] = Lot {
-            units: file[at],
-            reserve: number_at(file, at + 1),
-        };
-        at += 5;
-    }
-    lots
+    read_row(parts(file, 1, count), NO_LOT, read_lot)
 }
 
 fn read_accounts(file: &[u8], from: usize, count: usize) -> [u64; 255]
     requires { (count ≤ 255) × (from + count * 4 ≤ length file.now) }
     ensures { take count result ≡ accounts_at file.now from count }
 {
-    let mut accounts = [0u64; 255];
-    let mut at = from;
-    for k in 0..count {
-        accounts[k] = number_at(file, at) as u64;
-        at += 4;
-    }
-    accounts
+    read_row(parts(file, from, count), 0, read_account)
+}
+
+fn long_at(file: &[u8], at: usize) -> u64
+    requires { at + 8 ≤ length file.now }
+    ensures { result ≡ u64_at file.now at }
+{
+    u64::from_le_bytes(*file[at..].first_chunk().unwrap())
 }
 
 // The sale that the file opens; one that ends inside the opening counts as one with no lots.
@@ -100,11 +114,11 @@ pub(crate) fn open(file: &[u8]) -> Result<Sale, OpeningRefusal>
     if file.len() < size {
         return Err(OpeningRefusal::LotCount(0));
     }
-    let count = count_lots(file);
-    let farms = count_farms(file);
+    let count = lot_count(file);
+    let farms = farm_count(file);
     let from = 2 + count * 5;
     let lots = read_lots(file, count);
     let accounts = read_accounts(file, from, farms);
     let company = long_at(file, from + farms * 4);
-    Sale::open(&lots[0..count], &accounts[0..farms], company)
+    Sale::open(&lots[..count], &accounts[..farms], company)
 }

@@ -4,8 +4,8 @@ ghost use Rattle.bundle.specs.Checks.{viewed};
 ghost use Rattle.sale.specs.States.{state_of, after, replies};
 ghost use Rattle.session.specs.Session.{messages_in, run_within, told_within};
 
-use crate::frames::{Frame, frame_at};
-use crate::header::{open, size_of_opening};
+use crate::frames::Messages;
+use crate::header::open;
 use crate::refusals::RunRefusal;
 use book::Answer;
 use sale::Sale;
@@ -14,14 +14,7 @@ use sale::Sale;
 pub fn message_count(file: &[u8]) -> usize
     ensures { result ≡ length (messages_in file.now) }
 {
-    let mut at = size_of_opening(file);
-    let mut count = 0;
-    while at < file.len() {
-        let Frame { from: _, to } = frame_at(file, at);
-        at = to;
-        count += 1;
-    }
-    count
+    Messages::of(file).count()
 }
 
 // The sale after the messages of the file; the answers stand at the front of the row.
@@ -30,15 +23,10 @@ fn post_all(mut sale: Sale, file: &[u8], row: &mut [Answer]) -> Sale
     ensures state { state_of result ≡ after (state_of sale) (messages_in file.now) }
     ensures told { row.new ≡ replies (state_of sale) (messages_in file.now) ++ drop (length (messages_in file.now)) row.old }
 {
-    let mut at = size_of_opening(file);
-    let mut count = 0;
-    while at < file.len() {
-        let Frame { from, to } = frame_at(file, at);
-        let (next, answer) = sale.post(&file[from..to]);
+    for (k, message) in Messages::of(file).enumerate() {
+        let (next, answer) = sale.post(message);
         sale = next;
-        row[count] = answer;
-        count += 1;
-        at = to;
+        row[k] = answer;
     }
     sale
 }
@@ -53,8 +41,6 @@ pub fn run(file: &[u8], row: &mut [Answer]) -> Result<Sale, RunRefusal>
     if row.len() < count {
         return Err(RunRefusal::Room(count));
     }
-    match open(file) {
-        Ok(sale) => Ok(post_all(sale, file, row)),
-        Err(refusal) => Err(RunRefusal::Opening(refusal)),
-    }
+    let sale = open(file)?;
+    Ok(post_all(sale, file, row))
 }

@@ -4,22 +4,16 @@ ghost use Rattle.session.specs.Frames.{FramesBack};
 ghost use Rattle.session.specs.Samples.{SamplesClose};
 
 // Messages that are written one after the other are read so.
-pub fn frames_back_stands() -> u8
+pub fn frames_back_stands()
     ensures { FramesBack }
-{
-    0
-}
+{}
 
 // A file that is written is read as that opening and those messages.
-pub fn file_back_stands() -> u8
+pub fn file_back_stands()
     ensures { FileBack }
-{
-    0
-}
+{}
 
 // A run that closes a sale as the promise on true sheets has it: what farm 1 has by its true sheet, by a larger and by a smaller worth.
-pub fn samples_close_stands() -> u8
+pub fn samples_close_stands()
     ensures { SamplesClose }
-{
-    0
-}
+{}

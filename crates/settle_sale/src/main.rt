@@ -48,6 +48,7 @@ fn close(rt: &HostRuntime, file: &[u8]) -> anyhow::Result<ExitCode> {
     }
 }
 
+// This and `main` stand in close_sale too: a library's function that only reads and prints would have no contract.
 fn close_file(rt: &HostRuntime, path: &str) -> anyhow::Result<ExitCode> {
     match fs::read(rt, path) {
         Ok(file) => close(rt, &file),

@@ -1,52 +1,42 @@
 -- What is read is taken, and its writing is what was read. Assumes nothing.
-use Rattle.std.proofs.Common.{◌≡◌, ℕ, zero, suc, ◌+◌, ◌*◌, ◌/◌, ◌%◌, ◌^◌, ◌<◌, ◌≤◌, cond, eqb, ltb, List, [], ◌∷◌, ◌++◌, length, get_or, drop, Ok, Err, sym, refl, ap, ◌∙◌, subst, append_assoc, suc-mul, zero-mul, arith}
+use Rattle.std.proofs.Common.{◌≡◌, ℕ, zero, suc, ◌+◌, ◌*◌, ◌/◌, ◌%◌, ◌^◌, ◌<◌, ◌≤◌, List, [], ◌∷◌, ◌++◌, length, get_or, drop, Ok, sym, refl, ap, ◌∙◌, subst, suc-mul, zero-mul, arith}
 use Rattle.std.specs.List.{flat_map, AllByRecursion}
-use Rattle.std.proofs.lemmas.List.{drop_more, drop_all, append-nil}
-use Rattle.std.proofs.lemmas.Bool.{ltb-true, ltb-false, eqb-true}
+use Rattle.std.proofs.lemmas.List.{drop_more}
+use Rattle.std.proofs.lemmas.Bool.Decides.{nat_tests}
+use Rattle.std.proofs.lemmas.Grind.{common_steps}
 use Rattle.bundle.specs.Bids.{Bid, Bids}
 use Rattle.bundle.specs.Units.{Within}
 use Rattle.bundle.proofs.Bundles.{nil_within}
-use Rattle.sheets.specs.declared.refusals.MessageRefusal.TheVariants.{Short, NoFarm, OldNumber, ManyLines, WrongLength, WorthAboveAccount, UnitsAboveSupply}
 use Rattle.bundle.specs.Checks.{and_then}
 use Rattle.sheets.specs.Reading.{Submission, u32_at, sender_in, number_in, count_in, worth_in, units_in, line_in, lines_in, sheet_in, submission_in, read_message}
 use Rattle.sheets.specs.Writing.{u32_bytes, line_bytes, message_bytes}
 use Rattle.sheets.specs.Allowed.{Covered, Allowed, Taken, Plain, ReadExactly}
-use Rattle.bundle.proofs.Checks.{then_back, cond_ok, cond_past}
+use Rattle.bundle.proofs.Checks.{then_back}
 use Rattle.sheets.proofs.Writings.{read_back}
 
 -- Each check that was passed, with what it found.
 
 -- there are six bytes, and the first names a farm
 pub sender_read : (f : ℕ) (bs : List ℕ) (a : ℕ) → sender_in f bs ≡ Ok a → (6 ≤ length bs) × (get_or bs 0 0 ≡ a) × (a < f)
-sender_read f bs a e =
-    let past = cond_past (ltb (length bs) 6) (Short (length bs)) (cond (ltb (get_or bs 0 0) f) (Ok (get_or bs 0 0)) (Err (NoFarm 0))) a e in
-    let is = cond_ok (ltb (get_or bs 0 0) f) (get_or bs 0 0) (NoFarm 0) a past.1 in
-    (ltb-false (length bs) 6 past.0, is.1, omega (arith, is.1, ltb-true (get_or bs 0 0) f is.0))
+sender_read f bs a e = (grind (arith, nat_tests), grind (arith, nat_tests), grind (arith, nat_tests))
 
 -- the number is above the last
 pub number_read : (last : ℕ) (bs : List ℕ) (n : ℕ) → number_in last bs ≡ Ok n → (u32_at bs 1 ≡ n) × (last < n)
-number_read last bs n e =
-    let is = cond_ok (ltb last (u32_at bs 1)) (u32_at bs 1) (OldNumber 1) n e in
-    (is.1, subst (λ x. last < x) is.1 (ltb-true last (u32_at bs 1) is.0))
+number_read last bs n e = (grind (arith, nat_tests), grind (arith, nat_tests))
 
 -- at most 32 lines, and as many as the length says
 pub count_read : (m : ℕ) (bs : List ℕ) (n : ℕ) → count_in m bs ≡ Ok n → (get_or bs 5 0 ≡ n) × (n ≤ 32) × (length bs ≡ 6 + n * (4 + m))
-count_read m bs n e =
-    let past = cond_past (ltb 32 (get_or bs 5 0)) (ManyLines 5) (cond (eqb (length bs) (6 + get_or bs 5 0 * (4 + m))) (Ok (get_or bs 5 0)) (Err (WrongLength (length bs)))) n e in
-    let is = cond_ok (eqb (length bs) (6 + get_or bs 5 0 * (4 + m))) (get_or bs 5 0) (WrongLength (length bs)) n past.1 in
-    let few = ltb-false 32 (get_or bs 5 0) past.0 in
-    let long = eqb-true (length bs) (6 + get_or bs 5 0 * (4 + m)) is.0 in
-    (is.1, subst (λ x. x ≤ 32) is.1 few, subst (λ x. length bs ≡ 6 + x * (4 + m)) is.1 long)
+count_read m bs n e = (grind (arith, nat_tests), grind (arith, nat_tests), grind (arith, nat_tests))
 
 -- the first of the units and the others
 pub units_step : (s : ℕ) (ss bs : List ℕ) (p : ℕ) (us : List ℕ) → units_in (s ∷ ss) bs p ≡ Ok us →
     (vs : List ℕ) × (get_or bs p 0 ≤ s) × (units_in ss bs (p + 1) ≡ Ok vs) × (get_or bs p 0 ∷ vs ≡ us)
 unfolding units_in
 units_step s ss bs p us e =
-    let past = cond_past (ltb s (get_or bs p 0)) (UnitsAboveSupply p) (and_then (units_in ss bs (p + 1)) (λ vs. Ok (get_or bs p 0 ∷ vs))) us e in
-    let more = then_back (units_in ss bs (p + 1)) (λ vs. Ok (get_or bs p 0 ∷ vs)) us past.1 in
+    let h : and_then (units_in ss bs (p + 1)) (λ vs. Ok (get_or bs p 0 ∷ vs)) ≡ Ok us = grind (arith, nat_tests) in
+    let more = then_back (units_in ss bs (p + 1)) (λ vs. Ok (get_or bs p 0 ∷ vs)) us h in
     let f = more.2 in
-    (more.0, ltb-false s (get_or bs p 0) past.0, more.1, cc f)
+    (more.0, grind (arith, nat_tests), more.1, cc f)
 
 units_none : (bs : List ℕ) (p : ℕ) (us : List ℕ) → units_in [] bs p ≡ Ok us → [] ≡ us
 unfolding units_in
@@ -59,24 +49,21 @@ within_cons x y xs ys h w (suc j) = w j
 
 -- the units that are read name every lot and are within the supply
 pub units_taken : (ss bs : List ℕ) (p : ℕ) (us : List ℕ) → units_in ss bs p ≡ Ok us → (length us ≡ length ss) × Within us ss
-units_taken [] bs p us e = subst (λ u. (length u ≡ 0) × Within u []) (units_none bs p us e) (refl, nil_within [])
+units_taken [] bs p us e = rw (← units_none bs p us e) (refl, nil_within [])
 units_taken (s ∷ ss) bs p us e =
     let step = units_step s ss bs p us e in
     let more = units_taken ss bs (p + 1) step.0 step.2 in
-    subst (λ u. (length u ≡ suc (length ss)) × Within u (s ∷ ss)) step.3
-    (ap suc more.0, within_cons (get_or bs p 0) s step.0 ss step.1 more.1)
+    rw (← step.3) (ap suc more.0, within_cons (get_or bs p 0) s step.0 ss step.1 more.1)
 
 -- they are the bytes that stand there
 pub units_written : (ss bs : List ℕ) (p : ℕ) (us : List ℕ) → units_in ss bs p ≡ Ok us → p + length ss ≤ length bs → drop p bs ≡ us ++ drop (p + length ss) bs
 units_written [] bs p us e h =
     let at : p ≡ p + 0 = omega arith in
-    subst (λ u. drop p bs ≡ u ++ drop (p + 0) bs) (units_none bs p us e) (ap (λ q. drop q bs) at)
+    rw (← units_none bs p us e) (ap (λ q. drop q bs) at)
 units_written (s ∷ ss) bs p us e h =
     let step = units_step s ss bs p us e in
     let more = units_written ss bs (p + 1) step.0 step.2 (omega arith) in
-    let at : p + 1 + length ss ≡ p + suc (length ss) = omega arith in
-    subst (λ u. drop p bs ≡ u ++ drop (p + suc (length ss)) bs) step.3
-    (drop_more bs p 0 (omega arith) ∙ ap (λ x. get_or bs p 0 ∷ x) (more ∙ ap (λ q. step.0 ++ drop q bs) at))
+    rw (← step.3) (grind (arith, common_steps, more))
 
 -- the worth and the units of a line
 pub line_step : (supply : List ℕ) (account : ℕ) (bs : List ℕ) (p : ℕ) (l : Bid) → line_in supply account bs p ≡ Ok l →
@@ -85,12 +72,11 @@ line_step supply account bs p l e =
     let worthy = then_back (worth_in account bs p) (λ worth. and_then (units_in supply bs (p + 4)) (λ units. Ok (record { want = units; value = worth }))) l e in
     let worth = worthy.0 in
     let united = then_back (units_in supply bs (p + 4)) (λ units. Ok (record { want = units; value = worth })) l worthy.2 in
-    let past = cond_past (ltb account (u32_at bs p)) (WorthAboveAccount p) (Ok (u32_at bs p)) worth worthy.1 in
-    let f = past.1 in
+    let f = worthy.1 in
     let g = united.2 in
-    let is : u32_at bs p ≡ worth = cc f in
     let all : ◌≡◌ {A = Bid} (record { want = united.0; value = worth }) l = cc g in
-    (ltb-false account (u32_at bs p) past.0, is ∙ ap (λ (x : Bid). x.value) all, united.1 ∙ ap (λ (x : Bid). Ok x.want) all)
+    let is : u32_at bs p ≡ worth = grind (arith, nat_tests, f) in
+    (grind (arith, nat_tests, f), is ∙ ap (λ (x : Bid). x.value) all, united.1 ∙ ap (λ (x : Bid). Ok x.want) all)
 
 -- a line that is read is covered
 pub line_taken : (supply : List ℕ) (account : ℕ) (bs : List ℕ) (p : ℕ) (l : Bid) → line_in supply account bs p ≡ Ok l → Covered supply account l
@@ -116,12 +102,11 @@ lines_none supply account bs p ls e = cc
 
 -- so many lines as are read, all of them covered
 pub lines_taken : (supply : List ℕ) (account : ℕ) (bs : List ℕ) (p n : ℕ) (ls : Bids) → lines_in supply account bs p n ≡ Ok ls → (length ls ≡ n) × AllByRecursion (Covered supply account) ls
-lines_taken supply account bs p zero ls e = subst (λ x. (length x ≡ 0) × AllByRecursion (Covered supply account) x) (lines_none supply account bs p ls e) (refl, tt)
+lines_taken supply account bs p zero ls e = rw (← lines_none supply account bs p ls e) (refl, tt)
 lines_taken supply account bs p (suc n) ls e =
     let step = lines_step supply account bs p n ls e in
     let more = lines_taken supply account bs (p + (4 + length supply)) n step.1 step.3 in
-    subst (λ x. (length x ≡ suc n) × AllByRecursion (Covered supply account) x) step.4
-    (ap suc more.0, (line_taken supply account bs p step.0 step.2, more.1))
+    rw (← step.4) (ap suc more.0, (line_taken supply account bs p step.0 step.2, more.1))
 
 -- a sheet that is read is allowed
 pub sheet_allowed : (supply : List ℕ) (account : ℕ) (bs : List ℕ) (bids : Bids) → sheet_in supply account bs ≡ Ok bids → Allowed supply account bids
@@ -149,8 +134,7 @@ message_step supply accounts numbers bs s e =
     let sent = then_back (sender_in (length accounts) bs) (λ farm. submission_in supply farm (get_or accounts farm 0) (get_or numbers farm 0) bs) s e in
     let farm = sent.0 in
     let step = submission_step supply farm (get_or accounts farm 0) (get_or numbers farm 0) bs s sent.2 in
-    subst (λ a. (sender_in (length accounts) bs ≡ Ok a) × (number_in (get_or numbers a 0) bs ≡ Ok s.number) × (sheet_in supply (get_or accounts a 0) bs ≡ Ok s.bids))
-    step.0 (sent.1, step.1, step.2)
+    rw (← step.0) (sent.1, step.1, step.2)
 
 -- what is read is taken
 pub taken_if_read : (supply accounts numbers bs : List ℕ) (s : Submission) → read_message supply accounts numbers bs ≡ Ok s → Taken supply accounts numbers s
@@ -170,21 +154,14 @@ under [] h p = omega arith
 under (b ∷ bs) h zero = h.0
 under (b ∷ bs) h (suc p) = under bs h.1 p
 
--- what stands from p on, with the place behind it written otherwise
-pub drop-next : (bs : List ℕ) (p q : ℕ) → p + 1 ≡ q → p < length bs → drop p bs ≡ get_or bs p 0 ∷ drop q bs
-drop-next bs p q e h = drop_more bs p 0 h ∙ ap (λ x. get_or bs p 0 ∷ drop x bs) e
-
 -- the four bytes of the number that four bytes make
 pub u32_forth : (a b c d : ℕ) → a < 256 → b < 256 → c < 256 → d < 256 → a ∷ b ∷ c ∷ d ∷ [] ≡ u32_bytes (a + b * 256 + c * 65536 + d * 16777216)
 u32_forth a b c d h i j k =
     let n = a + b * 256 + c * 65536 + d * 16777216 in
-    let e : n / 256 ≡ b + c * 256 + d * 65536 = omega arith in
-    let f : n / 65536 ≡ c + d * 256 = omega arith in
-    let g : n / 16777216 ≡ d = omega arith in
     let w : a ≡ n % 256 = omega arith in
-    let x : b ≡ n / 256 % 256 = rw e (omega arith) in
-    let y : c ≡ n / 65536 % 256 = rw f (omega arith) in
-    let z : d ≡ n / 16777216 % 256 = rw g (omega arith) in
+    let x : b ≡ n / 256 % 256 = omega arith in
+    let y : c ≡ n / 65536 % 256 = omega arith in
+    let z : d ≡ n / 16777216 % 256 = omega arith in
     λ t. w t ∷ x t ∷ y t ∷ z t ∷ []
 
 module _ (bs : List ℕ) (bytes : (p : ℕ) → get_or bs p 0 < 256) where
@@ -194,11 +171,7 @@ module _ (bs : List ℕ) (bytes : (p : ℕ) → get_or bs p 0 < 256) where
   -- four bytes are the writing of their number
   pub u32_written : (p : ℕ) → p + 4 ≤ length bs → drop p bs ≡ u32_bytes (u32_at bs p) ++ drop (p + 4) bs
   u32_written p h =
-      let a = drop-next bs p (p + 1) refl (omega arith) in
-      let b = drop-next bs (p + 1) (p + 2) (omega arith) (omega arith) in
-      let c = drop-next bs (p + 2) (p + 3) (omega arith) (omega arith) in
-      let d = drop-next bs (p + 3) (p + 4) (omega arith) (omega arith) in
-      let split : drop p bs ≡ (get_or bs p 0 ∷ get_or bs (p + 1) 0 ∷ get_or bs (p + 2) 0 ∷ get_or bs (p + 3) 0 ∷ []) ++ drop (p + 4) bs = cc in
+      let split : drop p bs ≡ (get_or bs p 0 ∷ get_or bs (p + 1) 0 ∷ get_or bs (p + 2) 0 ∷ get_or bs (p + 3) 0 ∷ []) ++ drop (p + 4) bs = grind (arith, common_steps) in
       split ∙ ap (λ x. x ++ drop (p + 4) bs) (u32_forth (get_or bs p 0) (get_or bs (p + 1) 0) (get_or bs (p + 2) 0) (get_or bs (p + 3) 0) (bytes p) (bytes (p + 1)) (bytes (p + 2)) (bytes (p + 3)))
 
   module _ (supply : List ℕ) (account : ℕ) where
@@ -208,9 +181,7 @@ module _ (bs : List ℕ) (bytes : (p : ℕ) → get_or bs p 0 < 256) where
         let step = line_step supply account bs p l e in
         let at : p + 4 + length supply ≡ p + (4 + length supply) = omega arith in
         let units = units_written supply bs (p + 4) l.want step.2 (omega arith) in (
-          u32_written p (omega arith)
-              ∙ ap (λ x. u32_bytes x ++ drop (p + 4) bs) step.1
-              ∙ ap (λ x. u32_bytes l.value ++ x) (units ∙ ap (λ q. l.want ++ drop q bs) at),
+          grind (arith, u32_written p (omega arith), step, units, at),
           subst (λ x. x < 2 ^ 32) step.1 (u32_below p),
         )
 
@@ -219,8 +190,7 @@ module _ (bs : List ℕ) (bytes : (p : ℕ) → get_or bs p 0 < 256) where
         (drop p bs ≡ flat_map line_bytes ls ++ drop (p + n * (4 + length supply)) bs) × AllByRecursion (λ (l : Bid). l.value < 2 ^ 32) ls
     lines_written p zero ls e h =
         let at : p ≡ p + zero * (4 + length supply) = omega (arith, zero-mul (4 + length supply)) in
-        subst (λ x. (drop p bs ≡ flat_map line_bytes x ++ drop (p + zero * (4 + length supply)) bs) × AllByRecursion (λ (l : Bid). l.value < 2 ^ 32) x)
-        (lines_none supply account bs p ls e) (ap (λ q. drop q bs) at, tt)
+        rw (← lines_none supply account bs p ls e) (ap (λ q. drop q bs) at, tt)
     lines_written p (suc n) ls e h =
         let w = 4 + length supply in
         let step = lines_step supply account bs p n ls e in
@@ -229,10 +199,8 @@ module _ (bs : List ℕ) (bytes : (p : ℕ) → get_or bs p 0 < 256) where
         let at : p + w + n * w ≡ p + suc n * w = omega (arith, suc-mul n w) in
         let here = line-written p l step.2 (omega arith) in
         let more = lines_written (p + w) n ms step.3 (omega arith) in
-        subst (λ x. (drop p bs ≡ flat_map line_bytes x ++ drop (p + suc n * w) bs) × AllByRecursion (λ (l : Bid). l.value < 2 ^ 32) x) step.4 (
-          here.0
-              ∙ ap (λ x. line_bytes l ++ x) (more.0 ∙ ap (λ q. flat_map line_bytes ms ++ drop q bs) at)
-              ∙ sym (append_assoc (line_bytes l) (flat_map line_bytes ms) (drop (p + suc n * w) bs)),
+        rw (← step.4) (
+          grind (arith, common_steps, here, more, at),
           (here.1, more.1),
         )
 
@@ -253,8 +221,7 @@ module _ (bs : List ℕ) (bytes : (p : ℕ) → get_or bs p 0 < 256) where
       let front : bs ≡ get_or bs 0 0 ∷ drop 1 bs = drop_more bs 0 0 (omega (arith, sender.0)) in
       let next : drop 1 bs ≡ u32_bytes (u32_at bs 1) ++ drop 5 bs = u32_written 1 (omega (arith, sender.0)) in
       let then : drop 5 bs ≡ get_or bs 5 0 ∷ drop 6 bs = drop_more bs 5 0 (omega (arith, sender.0)) in
-      let rest : drop 6 bs ≡ flat_map line_bytes s.bids =
-      lines.0 ∙ ap (λ x. flat_map line_bytes s.bids ++ x) (drop_all (6 + n * w) bs (omega (arith, count.2))) ∙ append-nil (flat_map line_bytes s.bids) in
+      let rest : drop 6 bs ≡ flat_map line_bytes s.bids = grind (arith, common_steps, lines.0, count.2) in
       let many : get_or bs 5 0 ≡ length s.bids = count.0 ∙ sym taken.0 in (
         front
             ∙ (λ i. sender.1 i ∷ next i)

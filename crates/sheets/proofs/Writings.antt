@@ -1,43 +1,25 @@
 -- A submission that is taken is read back from its writing. Assumes nothing.
-use Rattle.std.proofs.Common.{◌≡◌, ℕ, suc, ◌+◌, ◌*◌, ◌/◌, ◌%◌, ◌^◌, ◌<◌, cond, ltb, List, [], ◌∷◌, ◌++◌, length, get_or, drop, Ok, Err, sym, refl, ap, ◌∙◌, append_assoc, add-zero, mod-eq_of_lt, suc-mul, div-add-mod', zero-mul, arith}
-use native.Mathlib.Nat.{div-div-eq-div-mul}
+use Rattle.std.proofs.Common.{◌≡◌, ℕ, suc, ◌+◌, ◌*◌, ◌/◌, ◌%◌, ◌^◌, ◌<◌, ◌≤◌, List, [], ◌∷◌, ◌++◌, length, get_or, Ok, sym, refl, ◌∙◌, append_assoc, suc-mul, zero-mul, arith}
 use Rattle.std.specs.List.{flat_map, AllByRecursion}
-use Rattle.std.proofs.lemmas.List.{get_or-drop, get_or_at, drop_at, length-append}
-use Rattle.std.proofs.lemmas.Bool.{lt-ltb, le-ltb, eq-eqb, cond-true, cond-false}
+use Rattle.std.proofs.lemmas.List.{get_or_at, length-append}
+use Rattle.std.proofs.lemmas.Grind.{common_steps}
+use Rattle.std.proofs.lemmas.Bool.Decides.{nat_tests}
 use Rattle.bundle.specs.Bids.{Bid, Bids}
 use Rattle.bundle.specs.Units.{Within}
-use Rattle.sheets.specs.declared.refusals.MessageRefusal.TheVariants.{OldNumber, WorthAboveAccount, UnitsAboveSupply}
-use Rattle.bundle.specs.Checks.{and_then}
 use Rattle.sheets.specs.Reading.{Submission, u32_at, sender_in, number_in, count_in, worth_in, units_in, line_in, lines_in, sheet_in, read_message}
 use Rattle.sheets.specs.Writing.{u32_bytes, line_bytes, message_bytes}
 use Rattle.sheets.specs.Allowed.{Covered, Taken, Plain}
 use Rattle.bundle.proofs.Checks.{then_ok}
 
--- four digits to the base 256
-digits_back : (n a b d q r s t : ℕ) → a * 256 + q ≡ n → b * 256 + r ≡ a → d * 256 + s ≡ b → t ≡ d → q + r * 256 + s * 65536 + t * 16777216 ≡ n
-digits_back n a b d q r s t w x y z = omega arith
-
 -- four bytes of a number make it again
 pub u32_back : (n : ℕ) → n < 2 ^ 32 → n % 256 + n / 256 % 256 * 256 + n / 65536 % 256 * 65536 + n / 16777216 % 256 * 16777216 ≡ n
-u32_back n h =
-    let e : n / 256 / 256 ≡ n / 65536 = div-div-eq-div-mul n 256 256 in
-    let f : n / 65536 / 256 ≡ n / 16777216 = div-div-eq-div-mul n 65536 256 in
-    let top : n / 16777216 < 256 = omega arith in
-    digits_back n (n / 256) (n / 65536) (n / 16777216) (n % 256) (n / 256 % 256) (n / 65536 % 256) (n / 16777216 % 256)
-    (div-add-mod' n 256)
-    (ap (λ x. x * 256 + n / 256 % 256) (sym e) ∙ div-add-mod' (n / 256) 256)
-    (ap (λ x. x * 256 + n / 65536 % 256) (sym f) ∙ div-add-mod' (n / 65536) 256)
-    (mod-eq_of_lt top)
-
--- a number at p is the first of what stands from p on
-pub u32_at-drop : (bs : List ℕ) (p : ℕ) → u32_at bs p ≡ u32_at (drop p bs) 0
-u32_at-drop bs p = simp (get_or-drop, add-zero)
+u32_back n h = omega arith
 
 -- a number is read back behind any bytes and before any bytes
 pub u32_at_bytes : (pre rest : List ℕ) (n : ℕ) → n < 2 ^ 32 → u32_at (pre ++ (u32_bytes n ++ rest)) (length pre) ≡ n
 u32_at_bytes pre rest n h =
     let bs = pre ++ (u32_bytes n ++ rest) in
-    u32_at-drop bs (length pre) ∙ ap (λ x. u32_at x 0) (drop_at pre (u32_bytes n ++ rest) (length pre) refl) ∙ u32_back n h
+    grind (arith, common_steps, u32_back n h)
 
 -- units within the supply are read back
 pub units_back : (ss pre us rest : List ℕ) → length us ≡ length ss → Within us ss → units_in ss (pre ++ (us ++ rest)) (length pre) ≡ Ok us
@@ -52,9 +34,8 @@ units_back (s ∷ ss) pre (u ∷ us) rest long fits =
     let here : get_or bs (length pre) 0 ≡ u = get_or_at pre u (us ++ rest) 0 (length pre) refl in
     let tail : units_in ss bs (length pre + 1) ≡ Ok us =
     (λ i. units_in ss (sym (append_assoc pre (u ∷ []) (us ++ rest)) i) (at i)) ∙ units_back ss more us rest (omega arith) (λ j. fits (suc j)) in
-    ap (λ x. cond (ltb s x) (Err (UnitsAboveSupply (length pre))) (and_then (units_in ss bs (length pre + 1)) (λ vs. Ok (x ∷ vs)))) here
-    ∙ cond-false _ _ _ (le-ltb s u (fits 0))
-    ∙ then_ok (units_in ss bs (length pre + 1)) (λ vs. Ok (u ∷ vs)) us tail
+    let low : u ≤ s = fits 0 in
+    grind (arith, nat_tests)
 
 -- a covered line is read back
 pub line_back : (supply : List ℕ) (account : ℕ) (pre rest : List ℕ) (l : Bid) → Covered supply account l → l.value < 2 ^ 32 → line_in supply account (pre ++ (line_bytes l ++ rest)) (length pre) ≡ Ok l
@@ -64,15 +45,14 @@ line_back supply account pre rest l ok small =
     let more = pre ++ u32_bytes worth in
     let at : length pre + 4 ≡ length more = omega (arith, length-append pre (u32_bytes worth)) in
     let is : u32_at bs (length pre) ≡ worth = u32_at_bytes pre (l.want ++ rest) worth small in
-    let worthy : worth_in account bs (length pre) ≡ Ok worth =
-    ap (λ x. cond (ltb account x) (Err (WorthAboveAccount (length pre))) (Ok x)) is ∙ cond-false _ _ _ (le-ltb account worth ok.worth) in
+    let worthy : worth_in account bs (length pre) ≡ Ok worth = grind (arith, nat_tests) in
     let united : units_in supply bs (length pre + 4) ≡ Ok l.want =
     (λ i. units_in supply (sym (append_assoc pre (u32_bytes worth) (l.want ++ rest)) i) (at i)) ∙ units_back supply more l.want rest ok.long ok.fits in
-    then_ok _ _ worth worthy ∙ then_ok _ _ l.want united
+    grind (arith, worthy, united)
 
 -- a line of m lots takes 4 + m bytes
 pub length-line : (supply : List ℕ) (account : ℕ) (l : Bid) → Covered supply account l → length (line_bytes l) ≡ 4 + length supply
-length-line supply account l ok = omega (arith, ok.long)
+length-line supply account l ok = omega arith
 
 -- covered lines are read back
 pub lines_back : (supply : List ℕ) (account : ℕ) (pre : List ℕ) (ls : Bids) → AllByRecursion (Covered supply account) ls → AllByRecursion (λ (l : Bid). l.value < 2 ^ 32) ls → lines_in supply account (pre ++ flat_map line_bytes ls) (length pre) (length ls) ≡ Ok ls
@@ -87,7 +67,7 @@ lines_back supply account pre (l ∷ ls) ok small =
     let here = line_back supply account pre rest l ok.0 small.0 in
     let tail : lines_in supply account bs (length pre + (4 + m)) (length ls) ≡ Ok ls =
     (λ i. lines_in supply account (sym (append_assoc pre (line_bytes l) rest) i) (at i) (length ls)) ∙ lines_back supply account more ls ok.1 small.1 in
-    then_ok _ _ l here ∙ then_ok _ _ ls tail
+    grind (arith, here, tail)
 
 -- and so many lines take so many times that
 pub length_lines : (supply : List ℕ) (account : ℕ) (ls : Bids) → AllByRecursion (Covered supply account) ls → length (flat_map line_bytes ls) ≡ length ls * (4 + length supply)
@@ -105,14 +85,11 @@ read_back supply accounts numbers s taken plain =
     let n = length s.bids in
     let covered = taken.allowed.covered in
     let long : length bs ≡ 6 + n * (4 + m) = omega (arith, length_lines supply account s.bids covered) in
-    let sent : sender_in (length accounts) bs ≡ Ok s.farm =
-    cond-false _ _ _ (le-ltb (length bs) 6 (omega arith)) ∙ cond-true _ _ _ (lt-ltb s.farm (length accounts) taken.known) in
+    let sent : sender_in (length accounts) bs ≡ Ok s.farm = grind (arith, nat_tests) in
     let is : u32_at bs 1 ≡ s.number = u32_back s.number plain.number in
-    let numbered : number_in last bs ≡ Ok s.number =
-    ap (λ x. cond (ltb last x) (Ok x) (Err (OldNumber 1))) is ∙ cond-true _ _ _ (lt-ltb last s.number taken.above) in
-    let counted : count_in m bs ≡ Ok n =
-    cond-false _ _ _ (le-ltb 32 n taken.allowed.few) ∙ cond-true _ _ _ (eq-eqb (length bs) (6 + n * (4 + m)) long) in
+    let numbered : number_in last bs ≡ Ok s.number = grind (arith, nat_tests) in
+    let counted : count_in m bs ≡ Ok n = grind (arith, nat_tests) in
     let lined : lines_in supply account bs 6 n ≡ Ok s.bids =
     lines_back supply account (s.farm ∷ (u32_bytes s.number ++ (n ∷ []))) s.bids covered plain.worths in
     let sheet : sheet_in supply account bs ≡ Ok s.bids = then_ok _ _ n counted ∙ lined in
-    then_ok _ _ s.farm sent ∙ then_ok _ _ s.number numbered ∙ then_ok _ _ s.bids sheet
+    grind (arith, sent, numbered, sheet)

@@ -1,5 +1,5 @@
 -- What the bytes of a message say, check by check, in the order in which a message is checked. Assumes nothing: these are definitions.
-use Rattle.std.specs.Prelude.{ℕ, zero, suc, ◌+◌, ◌*◌, cond, List, [], ◌∷◌, length, Ok, Err, Result, ◌==◌, nat_lt, slice_index}
+use Rattle.std.specs.Prelude.{ℕ, zero, suc, ◌+◌, ◌*◌, cond, List, [], ◌∷◌, ◌++◌, length, replicate, Ok, Err, Result, ◌==◌, nat_lt, slice_index}
 use Rattle.bundle.specs.Bids.{Bid, Bids}
 use Rattle.bundle.specs.Checks.{and_then}
 use Rattle.sheets.specs.declared.refusals.MessageRefusal.{MessageRefusal}
@@ -34,6 +34,10 @@ count_in m bs =
 -- the worth at p, covered by the account
 abbrev pub worth_in : ℕ → List ℕ → ℕ → Result ℕ MessageRefusal
 worth_in account bs p = cond (nat_lt account (u32_at bs p)) (Err (WorthAboveAccount p)) (Ok (u32_at bs p))
+
+-- bytes as they stand from p on in a message; what is before them is not read
+abbrev pub placed : ℕ → List ℕ → List ℕ
+placed p bs = replicate p 0 ++ bs
 
 -- the units of each lot from p on, a byte each, within the supply
 unfoldable pub units_in : List ℕ → List ℕ → ℕ → Result (List ℕ) MessageRefusal

@@ -8,6 +8,7 @@ use bundle::Bundle;
 
 impl Sheet {
     // A sheet of no lines.
+    #[tactic(auto, unfolding(crate::specs::Sheets::bids_of))]
     pub fn new() -> Sheet
         ensures { bids_of result ≡ [] }
     {
@@ -22,6 +23,7 @@ impl Sheet {
     }
 
     // The sheet with one line more; `None` where it has 32.
+    #[tactic(auto, using(crate::proofs::Walks::bids_more, crate::proofs::Over::bid_count), unfolding(crate::specs::Sheets::bids_of))]
     pub fn with_line(mut self, line: Line) -> Option<Sheet>
         ensures { option_map bids_of result ≡ (if nat_lt (length (bids_of self)) 32 then Some (bids_of self ++ bid_of line ∷ []) else None) }
     {
@@ -34,9 +36,10 @@ impl Sheet {
     }
 
     // Its lines.
+    #[tactic(auto, unfolding(crate::specs::Sheets::bids_of))]
     pub fn lines(&self) -> &[Line]
         ensures { map bid_of result.now ≡ bids_of self.now }
     {
-        &self.lines[0..self.count]
+        &self.lines[..self.count]
     }
 }

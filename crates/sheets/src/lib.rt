@@ -9,6 +9,7 @@ mod refusals;
 mod theorems;
 mod writer;
 
+pub use numbers::Refusal;
 pub use parts::{Line, Message, Sheet};
 pub use reader::read;
 pub use refusals::MessageRefusal;

@@ -1,13 +1,28 @@
 // The number and the place of a refusal.
-ghost use Rattle.std.specs.Prelude.{◌≡◌};
+ghost use Rattle.std.specs.Prelude.{◌≡◌, ℕ};
 ghost use Rattle.sheets.specs.Numbers.{message_number, message_place};
 
 use crate::refusals::MessageRefusal;
 
-impl MessageRefusal {
-    pub fn number(self) -> u8
-        ensures { result ≡ message_number self }
-    {
+// A refusal by the list of checks: the number of the check that failed, and the place of the fault.
+pub trait Refusal {
+    ghost number_of: { Self → ℕ };
+
+    ghost place_of: { Self → ℕ };
+
+    fn number(self) -> u8
+        ensures { result ≡ number_of self };
+
+    fn place(self) -> usize
+        ensures { result ≡ place_of self };
+}
+
+impl Refusal for MessageRefusal {
+    ghost number_of = { message_number };
+
+    ghost place_of = { message_place };
+
+    fn number(self) -> u8 {
         match self {
             MessageRefusal::Short(_) => 2,
             MessageRefusal::NoFarm(_) => 3,
@@ -19,9 +34,7 @@ impl MessageRefusal {
         }
     }
 
-    pub fn place(self) -> usize
-        ensures { result ≡ message_place self }
-    {
+    fn place(self) -> usize {
         match self {
             MessageRefusal::Short(place)
             | MessageRefusal::NoFarm(place)

@@ -12,6 +12,7 @@ pub struct Line {
 }
 
 // A sheet: 0 to 32 lines, alternatives of which at most one is awarded; the first `count` of the array are its lines.
+// An array with a count, since the libraries take no memory from the heap and a sheet is copied.
 #[derive(Clone, Copy)]
 pub struct Sheet {
     pub(crate) lines: [Line; 32],

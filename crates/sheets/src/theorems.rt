@@ -2,8 +2,6 @@
 ghost use Rattle.sheets.specs.Allowed.{ReadExactly};
 
 // A message is read exactly if it is the writing of a submission whose farm exists, whose number is above the farm's last, and whose sheet is allowed.
-pub fn read_exactly_stands() -> u8
+pub fn read_exactly_stands()
     ensures { ReadExactly }
-{
-    0
-}
+{}

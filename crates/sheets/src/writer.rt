@@ -1,52 +1,42 @@
 // Writes a message.
-ghost use Rattle.std.specs.Prelude.{◌≡◌, ◌+◌, ◌≤◌, length};
+ghost use Rattle.std.specs.Prelude.{◌≡◌, length};
 ghost use Rattle.std.specs.List.{flat_map};
-ghost use Rattle.sheets.specs.Sheets.{bid_of, bids_of, submission_of};
-ghost use Rattle.sheets.specs.Writing.{u32_bytes, line_bytes, message_bytes, over, written, written_size};
+ghost use Rattle.sheets.specs.Sheets.{bid_of, submission_of};
+ghost use Rattle.sheets.specs.Writing.{line_bytes, message_bytes, written, written_size};
 
-use crate::parts::{Line, Message, Sheet};
+use crate::parts::{Line, Message};
 
 // How many bytes the message takes.
 fn size_of(message: &Message) -> usize
-    ensures value { result ≡ length (message_bytes (submission_of message.now)) }
+    ensures { result ≡ length (message_bytes (submission_of message.now)) }
 {
-    let sheet = &message.sheet;
-    let mut size = 6;
-    for k in 0..sheet.count {
-        size += 4 + sheet.lines[k].units.lots();
-    }
-    size
+    let lines = message.sheet.lines();
+    6 + lines
+        .iter()
+        .map(|line| 4 + line.units.lots())
+        .sum::<usize>()
 }
 
-// Writes a number in four bytes, low byte first.
-fn put_number(out: &mut [u8], at: usize, n: u32)
-    requires { at + 4 ≤ length out.old }
-    ensures { out.new ≡ over at (u32_bytes n) out.old }
+// Writes a line over its row: its worth, then its units.
+fn put_line(row: &mut [u8], line: &Line)
+    requires { length row.old ≡ length (line_bytes (bid_of line.now)) }
+    ensures { row.new ≡ line_bytes (bid_of line.now) }
 {
-    out[at..at + 4].copy_from_slice(&n.to_le_bytes());
+    row[..4].copy_from_slice(&line.worth.to_le_bytes());
+    row[4..].copy_from_slice(line.units.units());
 }
 
-// Writes a line: its worth, then its units.
-fn put_line(out: &mut [u8], at: usize, line: &Line)
-    requires { at + length (line_bytes (bid_of line.now)) ≤ length out.old }
-    ensures { out.new ≡ over at (line_bytes (bid_of line.now)) out.old }
+// Writes lines over their rows, one behind the other.
+fn put_lines(rows: &mut [u8], lines: &[Line])
+    requires { length rows.old ≡ length (flat_map (λ l. line_bytes (bid_of l)) lines.now) }
+    ensures { rows.new ≡ flat_map (λ l. line_bytes (bid_of l)) lines.now }
 {
-    put_number(out, at, line.worth);
-    let units = line.units.units();
-    let from = at + 4;
-    out[from..from + units.len()].copy_from_slice(units);
-}
-
-// Writes the lines of a sheet, from the sixth byte on.
-fn put_lines(out: &mut [u8], sheet: &Sheet)
-    requires { 6 + length (flat_map line_bytes (bids_of sheet.now)) ≤ length out.old }
-    ensures { out.new ≡ over 6 (flat_map line_bytes (bids_of sheet.now)) out.old }
-{
-    let mut at = 6;
-    for k in 0..sheet.count {
-        let line = &sheet.lines[k];
-        put_line(out, at, line);
-        at += 4 + line.units.lots();
+    // By a place, since the rows differ in size, and what a loop writes through a part that it lends on is not known behind it.
+    let mut at = 0;
+    for line in lines {
+        let end = at + 4 + line.units.lots();
+        put_line(&mut rows[at..end], line);
+        at = end;
     }
 }
 
@@ -59,9 +49,10 @@ pub fn write(message: &Message, out: &mut [u8]) -> Option<usize>
     if out.len() < size {
         return None;
     }
+    let lines = message.sheet.lines();
     out[0] = message.farm;
-    put_number(out, 1, message.number);
-    out[5] = message.sheet.count as u8;
-    put_lines(out, &message.sheet);
+    out[1..5].copy_from_slice(&message.number.to_le_bytes());
+    out[5] = lines.len() as u8;
+    put_lines(&mut out[6..size], lines);
     Some(size)
 }

@@ -1,3 +1,4 @@
+pub mod Backs
 pub mod Layers
 pub mod Sheets
 pub mod Sweeps

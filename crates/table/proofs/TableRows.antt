@@ -1,5 +1,5 @@
 -- The rows of the table as lists: one row, one more in front of those that are filled, and what stands in the first. Assumes nothing.
-use Rattle.std.proofs.Common.{◌≡◌, ℕ, zero, suc, ◌+◌, ◌-◌, ◌*◌, ◌<◌, ◌≤◌, List, [], ◌∷◌, ◌++◌, map, length, get_or, take, drop, set, sym, refl, ap, ◌∙◌, subst, append_assoc, add-mul, arith}
+use Rattle.std.proofs.Common.{◌≡◌, ℕ, zero, suc, ◌+◌, ◌*◌, ◌<◌, ◌≤◌, List, [], ◌∷◌, ◌++◌, map, length, get_or, take, drop, set, sym, refl, ap, ◌∙◌, subst, append_assoc, add-mul, arith}
 use Rattle.std.specs.List.{range_with_len}
 use Rattle.std.proofs.lemmas.List.FromFn.{length-map-range_with_len, get_or-map-range_with_len, map-range_with_len_more, fill_by_all}
 use Rattle.std.proofs.lemmas.List.{append-nil, length-append, get_or_append_left, get_or-drop, get_or-take, length-take-le, take-append-drop, drop_at, drop-drop, drop_more, set_at}
@@ -48,20 +48,6 @@ module _ (s : List ℕ) (f : List ℕ → ℕ) (xs t : List ℕ) (p : ℕ) (is :
       ∙ sym (append_assoc before (f (bundle_at s p) ∷ []) (drop (p + 1) xs))
       ∙ ap (λ l. l ++ drop (p + 1) xs) (sym (map-range_with_len_more (λ q. f (bundle_at s q)) 0 p p (omega arith)))
 
-  -- what stands below is as it was
-  pub row_rest : (m : ℕ) → p ≤ m → drop m t ≡ drop m xs
-  unfolding before
-  row_rest m h =
-      let spot : p + (m - p) ≡ m = omega arith in
-      ap (λ n. drop n t) (sym spot)
-      ∙ sym (drop-drop (m - p) p t)
-      ∙ ap (drop (m - p)) (ap (drop p) is ∙ drop_at before (drop p xs) p (length-map-range_with_len (λ q. f (bundle_at s q)) 0 p))
-      ∙ drop-drop (m - p) p xs
-      ∙ ap (λ n. drop n xs) spot
-
-  pub row_whole : p ≡ bundles s → t ≡ onto (row s f) xs
-  row_whole all = is ∙ ap (λ n. up_to s f n xs) all ∙ ap (λ n. row s f ++ drop n xs) (sym (length-row s f))
-
 -- any row is the row of its entries
 pub row_of : (s t : List ℕ) → bundles s ≤ length t → t ≡ row s (entry s t) ++ drop (bundles s) t
 row_of s t h =
@@ -76,8 +62,8 @@ length-rows s keep [] = omega (arith, length-row s keep)
 length-rows s keep (b ∷ bs) =
     omega (arith, length-append (row s (optimum keep (b ∷ bs))) (rows s keep bs), length-row s (optimum keep (b ∷ bs)), length-rows s keep bs, add-mul (length bs + 1) 1 (bundles s))
 
-pub rows-onto : (s : List ℕ) (keep : List ℕ → ℕ) (bs : List Bids) (n : ℕ) (t : List ℕ) → length bs ≡ n → rows s keep bs ++ drop ((n + 1) * bundles s) t ≡ onto (rows s keep bs) t
-rows-onto s keep bs n t is = ap (λ k. rows s keep bs ++ drop k t) (sym (length-rows s keep bs ∙ ap (λ k. (k + 1) * bundles s) is))
+pub rows-onto : (s : List ℕ) (keep : List ℕ → ℕ) (bs : List Bids) (t : List ℕ) → rows s keep bs ++ drop ((length bs + 1) * bundles s) t ≡ onto (rows s keep bs) t
+rows-onto s keep bs t = ap (λ k. rows s keep bs ++ drop k t) (sym (length-rows s keep bs))
 
 -- the table depends on what the seller keeps of the bundles within the supply alone
 pub rows_like : (s : List ℕ) (f g : List ℕ → ℕ) → ((y : List ℕ) → length y ≡ length s → Within y s → f y ≡ g y) → (bs : List Bids) → rows s f bs ≡ rows s g bs

@@ -9,6 +9,7 @@ use Rattle.bundle.specs.declared.prices.Reserve.{Reserve}
 use Rattle.bundle.specs.declared.stock.Supply.{Supply}
 use Rattle.sheets.specs.Sheets.{bids_of}
 use Rattle.sheets.specs.declared.parts.Sheet.{Sheet}
+use Rattle.table.specs.declared.auction.Auction.{Auction as Lent}
 use Rattle.vcg.specs.Auction.{Auction}
 use Rattle.vcg.specs.Optimum.{best_among, optimum}
 
@@ -30,6 +31,14 @@ at_reserve supply prices bidders = record { supply = supply; keep = priced price
 
 abbrev pub auction_of : Supply → Reserve → List Sheet → Auction
 auction_of s r sheets = at_reserve (supply_of s) (prices_of r) (map bids_of sheets)
+
+-- the auction that an `Auction` stands for
+abbrev pub lent_auction : Lent → Auction
+lent_auction l = auction_of l.supply.now l.reserve.now l.sheets.now
+
+-- the auction of its first k bidders
+abbrev pub first_bidders : ℕ → Auction → Auction
+first_bidders k a = record { supply = a.supply; keep = a.keep; bidders = take k a.bidders }
 
 -- a table from row k on
 abbrev pub from_row : List ℕ → ℕ → List ℕ → List ℕ

@@ -1,50 +1,72 @@
-// What a sheet makes of one bundle.
-ghost use Rattle.std.specs.Prelude.{◌≡◌, ◌-◌, ◌<◌, ◌≤◌, ◌++◌, map, length, take, drop, replicate};
-ghost use Rattle.bundle.specs.Bundles.{units_of};
-ghost use Rattle.bundle.specs.Stocks.{supply_of, bundles_of};
-ghost use Rattle.bundle.specs.Units.{bundle_at};
-ghost use Rattle.sheets.specs.Sheets.{bid_of};
-ghost use Rattle.table.specs.Offers.{places_of, Roomy};
-ghost use Rattle.table.specs.Tables.{made};
+// What a sheet makes of each bundle.
+ghost use Rattle.std.specs.Prelude.{◌≡◌, ◌<◌, ◌≤◌, length, take};
+ghost use Rattle.bundle.specs.Stocks.{supply_of};
+ghost use Rattle.table.specs.Offers.{places_of};
 
+use crate::rows::write_row;
 use bundle::{Bundle, Supply};
-use sheets::Line;
+use sheets::{Line, Sheet};
 
-// The place of what each line wants, so that it is found once for all entries of a row; 0 past the last line.
-pub(crate) fn places_of(supply: &Supply, lines: &[Line]) -> [usize; 32]
-    requires few { length lines.now ≤ 32 }
-    ensures { result ≡ places_of (supply_of supply.now) lines.now ++ replicate (32 - length lines.now) 0 }
-{
-    let mut all = [0; 32];
-    for k in 0..lines.len() {
-        all[k] = supply.place(&lines[k].units);
-    }
-    all
+// The lines of a sheet, and the place of what each wants, so that it is found once for all entries of a row.
+#[derive(Drop)]
+pub(crate) struct Offers<'a> {
+    supply: &'a Supply,
+    lines: &'a [Line],
+    places: [usize; 32],
+    ghost few: { length lines.now ≤ 32 },
+    ghost placed: { take (length lines.now) places ≡ places_of (supply_of supply.now) lines.now },
 }
 
-// The most that the lines, or none of them, make of `x`, which stands at the place `at`, by the second of these rows.
-pub(crate) fn best_at(
-    supply: &Supply,
-    lines: &[Line],
-    places: &[usize; 32],
-    rows: &[u64],
-    x: &Bundle,
-    at: usize,
-) -> u64
-    requires few { length lines.now ≤ 32 }
-    requires placed { take (length lines.now) places.now ≡ places_of (supply_of supply.now) lines.now }
-    requires roomy { Roomy (bundles_of supply.now) rows.now }
-    requires below { at < bundles_of supply.now }
-    requires stands { units_of x.now ≡ bundle_at (supply_of supply.now) at }
-    ensures { result ≡ made (supply_of supply.now) (drop (bundles_of supply.now) rows.now) (map bid_of lines.now) (bundle_at (supply_of supply.now) at) }
-{
-    let below = &rows[supply.bundles()..];
-    let mut most = below[at];
-    for k in 0..lines.len() {
-        let line = &lines[k];
-        if line.units.fits(x) {
-            most = most.max(line.worth as u64 + below[at - places[k]]);
+impl<'a> Offers<'a> {
+    ghost use Rattle.std.specs.Prelude.{◌++◌, drop, map};
+    ghost use Rattle.bundle.specs.Bundles.{units_of};
+    ghost use Rattle.bundle.specs.Stocks.{bundles_of};
+    ghost use Rattle.bundle.specs.Units.{bundle_at};
+    ghost use Rattle.sheets.specs.Sheets.{bid_of, bids_of};
+    ghost use Rattle.table.specs.Offers.{Below};
+    ghost use Rattle.table.specs.Tables.{row, made};
+
+    pub(crate) fn new(supply: &'a Supply, sheet: &'a Sheet) -> Offers<'a>
+        ensures supply { result.supply.now ≡ supply.now }
+        ensures lines { map bid_of result.lines.now ≡ bids_of sheet.now }
+    {
+        let lines = sheet.lines();
+        let mut places = [0; 32];
+        for (k, line) in lines.iter().enumerate() {
+            places[k] = supply.place(&line.units);
+        }
+        Offers {
+            supply,
+            lines,
+            places,
         }
     }
-    most
+
+    // The most that the lines, or none of them, make of `x`, which stands at the place `at`, by the row below.
+    fn best_at(&self, below: &[u64], x: Bundle, at: usize) -> u64
+        requires below { Below (supply_of self.now.supply.now) below.now }
+        requires known { at < bundles_of self.now.supply.now }
+        requires stands { units_of x ≡ bundle_at (supply_of self.now.supply.now) at }
+        ensures { result ≡ made (supply_of self.now.supply.now) below.now (map bid_of self.now.lines.now) (bundle_at (supply_of self.now.supply.now) at) }
+    {
+        let mut most = below[at];
+        // No zip with the places: it would look for two ends at each line, in the innermost loop of all.
+        for (k, line) in self.lines.iter().enumerate() {
+            if line.units.fits(&x) {
+                most = most.max(line.worth as u64 + below[at - self.places[k]]);
+            }
+        }
+        most
+    }
+
+    // Writes the first row: the most that the lines make of each bundle, by the second.
+    pub(crate) fn fill_row(&self, rows: &mut [u64])
+        requires { Below (supply_of self.now.supply.now) (drop (bundles_of self.now.supply.now) rows.old) }
+        ensures { rows.new ≡ row (supply_of self.now.supply.now) (made (supply_of self.now.supply.now) (drop (bundles_of self.now.supply.now) rows.old) (map bid_of self.now.lines.now)) ++ drop (bundles_of self.now.supply.now) rows.old }
+    {
+        let many = self.supply.bundles();
+        let (entries, below) = rows.split_at_mut(many);
+        let below = &*below;
+        write_row(self.supply, entries, |x, p| self.best_at(below, x, p));
+    }
 }

@@ -2,15 +2,11 @@
 ghost use Rattle.table.specs.Promises.{EntriesAreMost, EntriesAreAll};
 
 // Each entry is reached by a choice of the farms from its row on, and no such choice is worth more.
-pub fn entries_are_most_stands() -> u8
+pub fn entries_are_most_stands()
     ensures { EntriesAreMost }
-{
-    0
-}
+{}
 
 // There is a row for each farm and one for the reserve, with an entry for each bundle.
-pub fn entries_are_all_stands() -> u8
+pub fn entries_are_all_stands()
     ensures { EntriesAreAll }
-{
-    0
-}
+{}

@@ -9,85 +9,61 @@ ghost use Rattle.vcg.specs.Optimum.{OptimumIsMost, AwardIsFirstBest, OutcomeExac
 ghost use Rattle.vcg.specs.Truth.{WorthExactly, Truthful, GrowthNeeded};
 
 // The best worth is reached by a choice, and none is worth more.
-pub fn optimum_is_most_stands() -> u8
+pub fn optimum_is_most_stands()
     ensures { OptimumIsMost }
-{
-    0
-}
+{}
 
 // The award is best, and the first of the best choices.
-pub fn award_is_first_best_stands() -> u8
+pub fn award_is_first_best_stands()
     ensures { AwardIsFirstBest }
-{
-    0
-}
+{}
 
 // Only one choice is both.
-pub fn one_choice_stands() -> u8
+pub fn one_choice_stands()
     ensures { OneChoice }
-{
-    0
-}
+{}
 
 // An outcome is by the rule exactly if it is the one that is computed.
-pub fn outcome_exactly_stands() -> u8
+pub fn outcome_exactly_stands()
     ensures { OutcomeExactly }
-{
-    0
-}
+{}
 
 // A bidder's charge depends on the units that it gets and on the others' bids alone.
-pub fn charge_law_stands() -> u8
+pub fn charge_law_stands()
     ensures { ChargeLaw }
-{
-    0
-}
+{}
 
 // A charge is at most the stated worth of what was got.
-pub fn charge_at_most_stands() -> u8
+pub fn charge_at_most_stands()
     ensures { ChargeAtMost }
-{
-    0
-}
+{}
 
 // A charge is at least what the seller would keep with the units that were got, less what it keeps.
-pub fn charge_at_least_stands() -> u8
+pub fn charge_at_least_stands()
     ensures { ChargeAtLeast }
-{
-    0
-}
+{}
 
 // A bidder that gets nothing pays nothing.
-pub fn nothing_for_nothing_stands() -> u8
+pub fn nothing_for_nothing_stands()
     ensures { NothingForNothing }
-{
-    0
-}
+{}
 
 // What a bundle is worth by a bidder's alternatives is the highest that is stated for one within it.
-pub fn worth_exactly_stands() -> u8
+pub fn worth_exactly_stands()
     ensures { WorthExactly }
-{
-    0
-}
+{}
 
 // No bids serve a bidder better than the true ones, where the seller's worth of units grows with them.
-pub fn truthful_stands() -> u8
+pub fn truthful_stands()
     ensures { Truthful }
-{
-    0
-}
+{}
 
 // Where it does not grow, they may.
-pub fn growth_needed_stands() -> u8
+pub fn growth_needed_stands()
     ensures { GrowthNeeded }
-{
-    0
-}
+{}
 
 // A choice that reaches the first entry of a table that passes its own steps is best.
-pub fn table_proof_stands() -> u8
+pub fn table_proof_stands()
     ensures { TableProof }
-{
-    0
-}
+{}

@@ -1,9 +1,10 @@
-use Rattle.std.proofs.Common.{◌+◌, ◌-◌, length, ap, arith}
+use Rattle.std.proofs.Common.{◌≡◌, [], get_or, ◌+◌, ◌-◌, ◌<◌, length, ap, arith}
 use Rattle.std.proofs.lemmas.List.FromFn.{length-map-range_with_len}
 use Rattle.std.proofs.lemmas.List.{length-map}
 use Rattle.bundle.specs.Reserves.{prices_of}
 use Rattle.sheets.specs.Sheets.{bids_of}
-use Rattle.table.specs.Tables.{auction_of}
+use Rattle.table.specs.Tables.{lent_auction}
+use Rattle.vcg.specs.Auction.{chosen}
 use Rattle.vcg.specs.Optimum.{best_choice, worth_without, charge_at}
 use Rattle.vcg.proofs.Optimal.{length-award}
 use Rattle.vcg.proofs.Outcomes.{charge_room}
@@ -11,53 +12,60 @@ use Rattle.award.proofs.Bounds.{without-small}
 use Rattle.award.proofs.Reserves.{reserve_grows}
 use Rattle.award.proofs.Picks.{stated-is}
 use Rattle.award.proofs.Rewrites.{halfway_at, halfway_more}
+use Rattle.award.proofs.charging.charge_all.Goals.{After-chosen_line-stated}
 use Rattle.award.proofs.charging.charge_all.Goals as goal
 
 pub bounds-award-farm : goal.bounds-award-farm
 bounds-award-farm c =
-    let a = auction_of c.args.supply.now c.args.reserve.now c.args.sheets.now in
-    omega (arith, ap length c.requires.chosen, length-award a.keep a.bidders a.supply, length-map c.args.sheets.now bids_of)
+    let a = lent_auction c.args.auction.now in
+    omega (arith, ap length c.requires.chosen, length-award a.keep a.bidders a.supply, length-map c.args.auction.now.sheets.now bids_of)
+
+known : (c : After-chosen_line-stated) → c.loop-farm.farm < length (lent_auction c.args.auction.now).bidders
+known c = omega (arith, length-map c.args.auction.now.sheets.now bids_of)
+
+-- what stands in the farm's place, and what it stated for its line
+without : (c : After-chosen_line-stated) → get_or c.loop-farm.charges c.loop-farm.farm 0 ≡ worth_without (lent_auction c.args.auction.now) c.loop-farm.farm
+without c =
+    let a = lent_auction c.args.auction.now in
+    halfway_at (worth_without a) (charge_at a) c.loop-farm.charges c.loop-farm.farm (length a.bidders) (known c) c.loop-farm.invariant
+
+stated : (c : After-chosen_line-stated) → let a = lent_auction c.args.auction.now in
+    c.chosen_line-stated.result.worth ≡ (chosen (get_or a.bidders c.loop-farm.farm []) (get_or (best_choice a) c.loop-farm.farm 0)).value
+stated c =
+    stated-is c.args.auction.now.sheets.now c.args.award.now (best_choice (lent_auction c.args.auction.now)) c.loop-farm.farm c.sheet-item.result c.chosen_line-stated.result
+    c.loop-farm-test.true c.sheet-item.is c.requires.chosen c.chosen_line-stated.ensures
+
+fits : (c : After-chosen_line-stated) → c.loop-farm.farm < length c.loop-farm.charges
+fits c =
+    let a = lent_auction c.args.auction.now in
+    omega (arith, known c, c.loop-farm.auto.charges, ap length c.requires.without, length-map-range_with_len (worth_without a) 0 (length a.bidders))
 
 pub bounds-charges-farm : goal.bounds-charges-farm
-bounds-charges-farm c =
-    let a = auction_of c.args.supply.now c.args.reserve.now c.args.sheets.now in
-    omega (arith, c.loop-farm.auto.charges, ap length c.requires.without, length-map-range_with_len (worth_without a) 0 (length c.args.sheets.now))
+bounds-charges-farm c = fits (goal.at.bounds-charges-farm c).After-chosen_line-stated
 
-pub overflow_add-charge : goal.overflow_add-charge
-overflow_add-charge c =
-    let a = auction_of c.args.supply.now c.args.reserve.now c.args.sheets.now in
+pub bounds-charges-farm-in-loop-farm : goal.bounds-charges-farm-in-loop-farm
+bounds-charges-farm-in-loop-farm c = fits (goal.at.bounds-charges-farm-in-loop-farm c).After-chosen_line-stated
+
+pub overflow_add-charges : goal.overflow_add-charges
+overflow_add-charges c =
+    let l = c.args.auction.now in
     omega (
       arith,
-      halfway_at (worth_without a) (charge_at a) c.loop-farm.charges c.loop-farm.farm (length c.args.sheets.now) c.loop-farm-test.true c.loop-farm.invariant,
-      without-small c.args.supply.now c.args.reserve.now c.args.sheets.now c.loop-farm.farm c.requires.few,
+      without (goal.at.overflow_add-charges c).After-chosen_line-stated,
+      without-small l.supply.now l.reserve.now l.sheets.now c.loop-farm.farm l.few,
       c.chosen_line-stated.result.small,
     )
 
-pub overflow_sub-charge : goal.overflow_sub-charge
-overflow_sub-charge c =
-    let a = auction_of c.args.supply.now c.args.reserve.now c.args.sheets.now in
-    let k = c.loop-farm.farm in
-    omega (
-      arith,
-      c.requires.best,
-      halfway_at (worth_without a) (charge_at a) c.loop-farm.charges k (length c.args.sheets.now) c.loop-farm-test.true c.loop-farm.invariant,
-      stated-is c.args.sheets.now c.args.award.now (best_choice a) k c.index-sheets-farm.result c.chosen_line-stated.result c.loop-farm-test.true c.index-sheets-farm.is
-          c.requires.chosen c.chosen_line-stated.ensures,
-      charge_room a k (omega (arith, length-map c.args.sheets.now bids_of)) (reserve_grows a.supply (prices_of c.args.reserve.now) a.bidders),
-    )
-
-pub bounds-charges-farm-in-loop-farm : goal.bounds-charges-farm-in-loop-farm
-bounds-charges-farm-in-loop-farm c =
-    let a = auction_of c.args.supply.now c.args.reserve.now c.args.sheets.now in
-    omega (arith, c.loop-farm.auto.charges, ap length c.requires.without, length-map-range_with_len (worth_without a) 0 (length c.args.sheets.now))
+pub overflow_sub-charges : goal.overflow_sub-charges
+overflow_sub-charges c =
+    let a = lent_auction c.args.auction.now in
+    let here = (goal.at.overflow_sub-charges c).After-chosen_line-stated in
+    omega (arith, c.requires.best, without here, stated here, charge_room a c.loop-farm.farm (known here) (reserve_grows a.supply (prices_of c.args.auction.now.reserve.now) a.bidders))
 
 pub loop-farm-preserved : goal.loop-farm-preserved
 unfolding charge_at
 loop-farm-preserved c =
-    let a = auction_of c.args.supply.now c.args.reserve.now c.args.sheets.now in
-    let k = c.loop-farm.farm in
-    let n = length c.args.sheets.now in
-    let here = halfway_at (worth_without a) (charge_at a) c.loop-farm.charges k n c.loop-farm-test.true c.loop-farm.invariant in
-    let stated = stated-is c.args.sheets.now c.args.award.now (best_choice a) k c.index-sheets-farm.result c.chosen_line-stated.result c.loop-farm-test.true
-    c.index-sheets-farm.is c.requires.chosen c.chosen_line-stated.ensures in
-    halfway_more (worth_without a) (charge_at a) c.loop-farm.charges k n c.loop-farm-test.true c.loop-farm.invariant _ (λ i. (here i + stated i) - c.requires.best i)
+    let a = lent_auction c.args.auction.now in
+    let here = (goal.at.loop-farm-preserved c).After-chosen_line-stated in
+    halfway_more (worth_without a) (charge_at a) c.loop-farm.charges c.loop-farm.farm (length a.bidders) (known here) c.loop-farm.invariant _
+    (λ i. (without here i + stated here i) - c.requires.best i)

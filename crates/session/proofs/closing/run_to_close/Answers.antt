@@ -6,13 +6,13 @@ use Rattle.session.proofs.Closings.{rows_of, rows_is}
 use Rattle.session.proofs.Truths.{true_file_is_best}
 use Rattle.session.proofs.closing.run_to_close.Goals as goal
 
-pub returns-in-Ok-clause-rows : goal.returns-in-Ok-clause-rows
-returns-in-Ok-clause-rows c =
+pub returns-clause-rows : goal.returns-clause-rows
+returns-clause-rows c =
     let rows = lent c.args.table.now c.args.award.now c.args.charges.now in
-    c.close-sale.ensures.rows ∙ ap (λ (r : Result State RunRefusal). rows_of r rows) c.in-Ok.ensures.value ∙ rows_is (length c.args.answers.now) c.args.file.now rows
+    c.close-sale.ensures.rows ∙ ap (λ (r : Result State RunRefusal). rows_of r rows) c.in_ok-sale.ensures.value ∙ rows_is (length c.args.answers.now) c.args.file.now rows
 
-pub returns-in-Ok-clause-truthful : goal.returns-in-Ok-clause-truthful
-returns-in-Ok-clause-truthful c = true_file_is_best
+pub returns-clause-truthful : goal.returns-clause-truthful
+returns-clause-truthful c = true_file_is_best
 
-pub returns-in-Err-clause-truthful : goal.returns-in-Err-clause-truthful
-returns-in-Err-clause-truthful c = true_file_is_best
+pub returns-in_err-sale-clause-truthful : goal.returns-in_err-sale-clause-truthful
+returns-in_err-sale-clause-truthful c = true_file_is_best

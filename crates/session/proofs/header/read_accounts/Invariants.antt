@@ -1,9 +1,6 @@
-use Rattle.std.proofs.Common.{◌≡◌, ◌+◌, ◌-◌, ◌*◌, ◌++◌, length, take}
-use Rattle.session.specs.Session.{accounts_at}
+use Rattle.std.specs.Prelude.{ℕ, List}
+use Rattle.sheets.specs.Reading.{u32_at}
 use Rattle.session.proofs.header.read_accounts.Given as goal
 
-abbrev pub invariant-loop-k : goal.invariant-loop-k
-invariant-loop-k l =
-    (length l.accounts ≡ 255)
-    × (l.at ≡ l.from + l.k * 4)
-    × (take l.k l.accounts ++ accounts_at l.file l.at (l.count - l.k) ≡ accounts_at l.file l.from l.count)
+abbrev pub ghost-read_row : goal.ghost-read_row
+ghost-read_row a = λ (part : List ℕ). u32_at part 0

@@ -1,13 +1,10 @@
-use Rattle.std.proofs.Common.{length, drop, ap, arith}
+use Rattle.std.proofs.Common.{length, drop, inl, ap, arith}
 use Rattle.std.proofs.lemmas.List.{length-drop}
 use Rattle.session.specs.Session.{opening_size}
-use Rattle.session.proofs.Framing.{messages_end, length-messages}
+use Rattle.session.proofs.Framing.{length-messages}
 use Rattle.session.proofs.running.message_count.Goals as goal
 
-pub overflow_add-count : goal.overflow_add-count
-overflow_add-count c =
+pub count-requires-clause-fits : goal.count-requires-clause-fits
+count-requires-clause-fits c =
     let bs = c.args.file.now in
-    omega (arith, c.loop-at.invariant, length-messages (drop (opening_size bs) bs), length-drop (opening_size bs) bs)
-
-pub returns : goal.returns
-returns c = omega (arith, c.loop-at.invariant, ap length (messages_end c.args.file.now c.loop-at.at (omega arith)))
+    inl (omega (arith, ap length c.of.ensures, length-messages (drop (opening_size bs) bs), length-drop (opening_size bs) bs))

@@ -1,15 +1,14 @@
-use Rattle.std.proofs.Common.{◌≡◌, ◌+◌, ◌-◌, ◌++◌, length, take, drop}
+use Rattle.std.proofs.Common.{◌≡◌, ◌+◌, ◌≤◌, ◌++◌, length, take, drop}
 use Rattle.sale.specs.States.{state_of, after, replies}
 use Rattle.session.specs.Frames.{messages}
 use Rattle.session.specs.Session.{messages_in}
 use Rattle.session.proofs.running.post_all.Given as goal
 
-abbrev pub invariant-loop-at : goal.invariant-loop-at
-invariant-loop-at l =
-    (l.count + length (messages (drop l.at l.file)) ≡ length (messages_in l.file))
-    × (after (state_of l.sale) (messages (drop l.at l.file)) ≡ after (state_of l.initial.sale) (messages_in l.file))
-    × (take l.count l.row ++ replies (state_of l.sale) (messages (drop l.at l.file)) ≡ replies (state_of l.initial.sale) (messages_in l.file))
-    × (drop (length (messages_in l.file)) l.row ≡ drop (length (messages_in l.file)) l.initial.row)
-
-abbrev pub decreases-loop-at : goal.decreases-loop-at
-decreases-loop-at l = length l.file - l.at
+abbrev pub invariant-loop-k : goal.invariant-loop-k
+invariant-loop-k l =
+    let h = state_of l.initial.sale in
+    let k = l.k-iterator.count in
+    let rest = messages l.k-iterator.iter.0.now in
+    (k + length rest ≤ length l.row)
+    × (after (state_of l.sale) rest ≡ after h (messages_in l.file))
+    × (take k l.row ++ (replies (state_of l.sale) rest ++ drop (k + length rest) l.row) ≡ replies h (messages_in l.file) ++ drop (length (messages_in l.file)) l.initial.row)

@@ -1,24 +1,28 @@
-use Rattle.std.proofs.Common.{◌≡◌, get_or, arith}
-use Rattle.sheets.specs.Sheets.{bids_of}
-use Rattle.sheets.proofs.Over.{few_units, length-next}
+use Rattle.std.proofs.Common.{◌≡◌, length, ap, rules, arith}
+use borrow.Author.Tests.{tests}
+use Rattle.std.specs.List.{sum_by}
+use Rattle.std.proofs.lemmas.Iterator.{YieldsList-from_slice, YieldsList-from_map}
+use Rattle.std.proofs.lemmas.Iterator.Consumers.{sum_by_from_yields_List, fits_by_from_yields_list}
+use Rattle.sheets.proofs.Over.{row_size, length_rows, few_bytes, few_lines, rows_bids}
 use Rattle.sheets.proofs.writer.size_of.Goals as goal
 
-pub overflow_add-size : goal.overflow_add-size
-overflow_add-size c = omega (arith, few_units (get_or c.args.message.now.sheet.lines c.loop-k.k c.index-sheet-k.result).units)
+pub sum-requires-clause-fits : goal.sum-requires-clause-fits
+sum-requires-clause-fits c =
+    let ls = c.lines-lines.result.now in
+    fits_by_from_yields_list row_size ls c.map.result _ (YieldsList-from_map _ row_size (YieldsList-from_slice ls cc) c.map.ensures.closure (λ x r q k. search (rules, tests)))
+    (omega (arith, few_bytes ls, few_lines c.args.message.now.sheet ls c.lines-lines.ensures))
 
-pub overflow_add-size-in-loop-k : goal.overflow_add-size-in-loop-k
-overflow_add-size-in-loop-k c = omega (arith, few_units (get_or c.args.message.now.sheet.lines c.loop-k.k c.index-sheet-k.result).units)
+total : (c : goal.After-sum) → c.sum.result ≡ sum_by row_size c.lines-lines.result.now
+total c =
+    let ls = c.lines-lines.result.now in
+    sum_by_from_yields_List row_size ls c.map.result c.sum.result c.sum.ensures.ran (YieldsList-from_map _ row_size (YieldsList-from_slice ls cc) c.map.ensures.closure (λ x r q k. search (rules, tests)))
 
-pub loop-k-preserved : goal.loop-k-preserved
-loop-k-preserved c =
-    let ls = c.args.message.now.sheet.lines in (
-      length-next ls c.loop-k.k c.index-sheet-k.result (omega arith) c.loop-k.size c.lots.result c.loop-k.invariant.0 c.lots.ensures.value,
-      omega (arith, few_units (get_or ls c.loop-k.k c.index-sheet-k.result).units),
-    )
+pub overflow_add-result : goal.overflow_add-result
+overflow_add-result c =
+    let ls = c.lines-lines.result.now in
+    omega (arith, total c, few_bytes ls, few_lines c.args.message.now.sheet ls c.lines-lines.ensures)
 
 pub returns : goal.returns
-unfolding bids_of
 returns c =
-    let e : c.loop-k.k ≡ c.args.message.now.sheet.count = omega arith in
-    let all = rw e at c.loop-k.invariant.0 in
-    record { value = omega (arith, all) }
+    let ls = c.lines-lines.result.now in
+    omega (arith, total c, length_rows ls, ap length (rows_bids c.args.message.now.sheet ls c.lines-lines.ensures))

@@ -1,5 +1,5 @@
-use Rattle.std.proofs.Common.{eqb, ltb, List, map, length, Some, sym, refl, ap, ◌∙◌, subst, arith}
-use Rattle.std.proofs.lemmas.Bool.{or_from, ne_eqb, le-ltb, cond-false}
+use Rattle.std.proofs.Common.{List, map, length, Some, sym, refl, ap, ◌∙◌, subst, arith}
+use Rattle.std.proofs.lemmas.Bool.Decides.{nat_tests}
 use Rattle.bundle.specs.Stocks.{supply_of}
 use Rattle.book.specs.Books.{entries_of}
 use Rattle.book.specs.Places.{AllAllowed}
@@ -8,16 +8,12 @@ use Rattle.book.proofs.Allows.{fresh-allowed}
 use Rattle.book.proofs.Entries.{entries-fresh}
 use Rattle.book.proofs.state.Book.open.Goals as goal
 
-pub returns : goal.returns
+pub returns-clause-places : goal.returns-clause-places
 unfolding entries_of
-returns c =
+returns-clause-places c =
     let xs = c.args.accounts.now in
-    record {
-      places =
-          ap (λ l. Some l) (entries-fresh (length xs) 48 c.accounts_of.result c.new.result (omega arith) c.new.ensures ∙ ap (map fresh) c.accounts_of.ensures)
-          ∙ sym (cond-false _ _ _ (or_from (eqb (length xs) 0) (ltb 48 (length xs)) (ne_eqb (length xs) 0 (λ e. omega arith)) (le-ltb 48 (length xs) (omega arith))));
-      terms = refl;
-    }
+    let none = entries-fresh (length xs) 48 c.accounts_of.result c.new.result (omega arith) c.new.ensures ∙ ap (map fresh) c.accounts_of.ensures in
+    ap (λ l. Some l) none ∙ grind (arith, nat_tests)
 
 pub invariant_of-result : goal.invariant_of-result
 invariant_of-result c =

@@ -1,31 +1,24 @@
-use Rattle.std.proofs.Common.{◌≡◌, ◌<◌, ltb, length, get_or, take, sym, ap, ◌∙◌, arith}
-use Rattle.std.proofs.lemmas.List.{length-map}
-use Rattle.std.proofs.lemmas.List.Sums.{count_by_more_yes, count_by_more_no}
-use Rattle.std.proofs.lemmas.Bool.{lt-ltb, le-ltb}
-use Rattle.sheets.specs.Sheets.{bid_of}
-use Rattle.book.specs.Books.{entries, entries_of, standing}
-use Rattle.book.specs.Posting.{Entry, no_entry}
-use Rattle.book.proofs.Entries.{length-entries, bids-entry}
+use Rattle.std.proofs.Common.{◌≡◌, ℕ, cond, ltb, List, map, length, count_by, sum, sym, ap, ◌∙◌, of_calls}
+use Rattle.std.proofs.lemmas.List.Sums.{sum-map}
+use Rattle.std.proofs.lemmas.Simd.{map-map}
+use Rattle.bundle.specs.Bids.{Bids}
+use Rattle.sheets.specs.Sheets.{bids_of}
+use Rattle.sheets.specs.declared.parts.Sheet.{Sheet}
+use Rattle.book.specs.Books.{entries_of}
+use Rattle.book.specs.Posting.{Entry}
 use Rattle.book.proofs.state.Book.standing.Goals as goal
-use Rattle.book.proofs.state.Book.standing.Goals.{then-lines-gt0, else-lines-gt0}
 
-pub loop-k-preserved : goal.loop-k-preserved
-loop-k-preserved c =
-    let b = c.args.self.now in
-    let k = c.loop-k.k in
-    let es = entries b.accounts b.numbers b.sheets in
-    let long : k < length es = omega (arith, length-entries b.accounts b.numbers b.sheets (omega arith) (omega arith)) in
-    let bids = bids-entry b.accounts b.numbers b.sheets k c.index-self-k.result (omega arith) (omega arith) (omega arith) in
-    let many : length (get_or es k no_entry).bids ≡ length c.lines.result.now =
-    ap length (bids ∙ sym c.lines.ensures) ∙ length-map c.lines.result.now bid_of in
-    elim c.if-lines-gt0.branch [
-      | then-lines-gt0 w ↦ (omega (arith, w.n-is), omega (arith, w.n-is, c.loop-k.invariant.1, count_by_more_yes (λ (e : Entry). ltb 0 (length e.bids)) es k no_entry long (lt-ltb 0 _ (omega (arith, many, w.if-lines-gt0.true)))))
-      | else-lines-gt0 w ↦ (omega (arith, w.n-is), omega (arith, w.n-is, c.loop-k.invariant.1, count_by_more_no (λ (e : Entry). ltb 0 (length e.bids)) es k no_entry long (le-ltb 0 _ (omega (arith, many, w.if-lines-gt0.false)))))
-    ]
+abbrev one : Bids → ℕ
+one b = cond (ltb 0 (length b)) 1 0
+
+-- the sheets that have bids, counted by their bids alone
+by_bids : {X : Type 0} (bids : X → Bids) (xs : List X) → count_by (λ x. ltb 0 (length (bids x))) xs ≡ sum (map one (map bids xs))
+by_bids bids xs = sym (sum-map (λ x. one (bids x)) xs) ∙ ap sum (sym (map-map one bids xs))
 
 pub returns : goal.returns
-unfolding entries_of
 returns c =
-    let b = c.args.self.now in
-    let end : c.loop-k.k ≡ b.farms = omega arith in
-    c.loop-k.invariant.1 ∙ ap (λ n. standing (take n (entries b.accounts b.numbers b.sheets))) end
+    let sheets = c.sheets.result.now in
+    let n : c.count.result ≡ count_by (λ (s : Sheet). ltb 0 (length (bids_of s))) sheets = search of_calls in
+    n ∙ by_bids bids_of sheets
+    ∙ ap (λ bs. sum (map one bs)) c.sheets.ensures
+    ∙ sym (by_bids (λ (e : Entry). e.bids) (entries_of c.args.self.now))

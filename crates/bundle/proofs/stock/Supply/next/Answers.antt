@@ -21,7 +21,7 @@ returns-then-counts-lot c =
     let is = get_or-take n xs i 0 (omega arith) in
     take-set-lt n xs i (get_or xs i 0 + 1) (omega arith)
     ∙ ap (λ v. set (take n xs) i (v + 1)) (sym is)
-    ∙ next_room (supply_of s) (take n xs) i (omega (arith, length_units s.units)) (omega (arith, length-take-le n xs (omega arith))) (omega (arith, is, get_or_units s.units i))
+    ∙ next_room (supply_of s) (take n xs) i (omega (arith, length_units s.units)) (omega (arith, length-take-le n xs (omega arith))) (omega (arith, is, get_or-take c.min-lots.result s.units.counts i 0 (omega arith), get_or_units s.units i))
     ∙ c.loop-lot.invariant.1
 
 pub loop-lot-preserved : goal.loop-lot-preserved
@@ -32,7 +32,7 @@ loop-lot-preserved c =
     let xs = c.loop-lot.counts in (
       simp length-set c.loop-lot.invariant.0,
       rw (take-set-lt n xs i _ (omega arith))
-          (next_carry (supply_of s) (take n xs) i (omega (arith, length_units s.units)) (omega (arith, length-take-le n xs (omega arith))) (omega (arith, get_or-take n xs i 0 (omega arith), get_or_units s.units i))
+          (next_carry (supply_of s) (take n xs) i (omega (arith, length_units s.units)) (omega (arith, length-take-le n xs (omega arith))) (omega (arith, get_or-take n xs i 0 (omega arith), get_or-take c.min-lots.result s.units.counts i 0 (omega arith), get_or_units s.units i))
           ∙ c.loop-lot.invariant.1),
       λ k h. let ne : k ≢ i = omega arith in rw get_or-set_other (c.loop-lot.invariant.2 k h),
     )

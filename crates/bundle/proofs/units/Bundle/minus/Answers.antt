@@ -10,13 +10,13 @@ unfolding units_of
 returns c =
     let a = c.args.self.now in
     let b = c.args.other.now in
-    let each : (k : ℕ) → get_or c.loop-lot.counts k 0 ≡ get_or a.counts k 0 - get_or b.counts k 0 =
+    let each : (k : ℕ) → get_or c.loop-lot.count-items k 0 ≡ get_or a.counts k 0 - get_or b.counts k 0 =
     λ k.
     ⊎_elim
     (λ h. c.loop-lot.invariant.1 k h)
     (λ h. omega (arith, c.loop-lot.invariant.2 k h, get_or_past a.counts k 0 (omega arith)))
     (cases_lt k c.loop-lot.lot) in
-    less_front c.loop-lot.counts a.counts b.counts a.lots b.lots
+    less_front c.loop-lot.count-items a.counts b.counts a.lots b.lots
     (c.loop-lot.invariant.0, a.few, λ j h. omega (arith, each j, a.padded j h))
     (padding a) (padding b)
     each

@@ -3,6 +3,6 @@ use Rattle.bundle.proofs.units.Bundle.minus.Given as goal
 
 abbrev pub invariant-loop-lot : goal.invariant-loop-lot
 invariant-loop-lot l =
-    (length l.counts ≡ 12)
-    × ((k : ℕ) → k < l.lot → get_or l.counts k 0 ≡ get_or l.self.counts k 0 - get_or l.other.counts k 0)
-    × ((k : ℕ) → l.lot ≤ k → get_or l.counts k 0 ≡ get_or l.self.counts k 0)
+    (length l.count-items ≡ 12)
+    × ((k : ℕ) → k < l.lot → get_or l.count-items k 0 ≡ get_or l.self.counts k 0 - get_or l.other.counts k 0)
+    × ((k : ℕ) → l.lot ≤ k → get_or l.count-items k 0 ≡ get_or l.self.counts k 0)

@@ -2,13 +2,7 @@ use Rattle.std.proofs.Common.{length, Some, sym, ap, ◌∙◌, arith}
 use Rattle.std.proofs.lemmas.List.{take_at}
 use Rattle.std.proofs.lemmas.Bool.{le-ltb, cond-false}
 use Rattle.bundle.specs.Bundles.{units_of}
-use Rattle.bundle.proofs.Padding.{padded_copy}
 use Rattle.bundle.proofs.units.Bundle.new.Goals as goal
-
-pub invariant_of-result : goal.invariant_of-result
-invariant_of-result c =
-    let p = padded_copy c.copy_from_slice.new.self (length c.args.counts.now) (ap length c.copy_from_slice.ensures.after) (omega arith) in
-    record { long = p.0; few = p.1; padded = p.2 }
 
 pub returns : goal.returns
 unfolding units_of

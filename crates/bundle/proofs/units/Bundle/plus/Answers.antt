@@ -1,5 +1,6 @@
 use Rattle.std.proofs.Common.{◌≡◌, ℕ, ◌+◌, ◌<◌, get_or, take, Some, sym, ap, ◌∙◌, ⊎_elim, arith}
 use Rattle.std.proofs.lemmas.Bool.{cases_lt, cond-true, cond-false}
+use Rattle.std.specs.Option.{option_map}
 use Rattle.bundle.specs.Bundles.{units_of}
 use Rattle.bundle.proofs.Padding.{sum_too_large, sum_units, sum-within}
 use Rattle.bundle.proofs.units.Bundle.plus.Goals as goal
@@ -7,13 +8,13 @@ use Rattle.bundle.proofs.units.Bundle.plus.Goals as goal
 over : (x y z : ℕ) → (z + y < 256 → ⊥) → z ≡ x → 255 < x + y
 over x y z n e = ⊎_elim (λ h. absurd (n (omega arith))) (λ h. omega arith) (cases_lt (x + y) 256)
 
-pub returns-in_default : goal.returns-in_default
-returns-in_default c =
+pub returns-in_err-counts : goal.returns-in_err-counts
+returns-in_err-counts c =
     let a = c.args.self.now in
     let b = c.args.other.now in
     let i = c.loop-lot.lot in
-    sym (cond-false _ _ _ (sum_too_large a b i
-    (over (get_or a.counts i 0) (get_or b.counts i 0) (get_or c.loop-lot.counts i 0) c.in_default.ensures (c.loop-lot.invariant.2 i (omega arith)))))
+    ap (option_map units_of) c.from_residual.ensures ∙ sym (cond-false _ _ _ (sum_too_large a b i
+    (over (get_or a.counts i 0) (get_or b.counts i 0) (get_or c.loop-lot.counts i 0) c.in_err-counts.ensures (c.loop-lot.invariant.2 i (omega arith)))))
 
 pub returns : goal.returns
 unfolding units_of

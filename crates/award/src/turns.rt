@@ -1,0 +1,67 @@
+// One farm's turn to choose.
+ghost use Rattle.std.specs.Prelude.{◌≡◌, ℕ, ◌^◌, ◌<◌, ◌≤◌, true, length, slice_index};
+ghost use Rattle.bundle.specs.Bundles.{units_of};
+ghost use Rattle.bundle.specs.Stocks.{supply_of};
+ghost use Rattle.bundle.specs.Units.{bundles, within};
+
+use bundle::{Bundle, Supply};
+use sheets::{Line, Sheet};
+
+// The units that the farms before it leave, the row below its own, and the worth that its choice is to make of those units.
+#[derive(Drop)]
+pub(crate) struct Turn<'a> {
+    pub(crate) supply: &'a Supply,
+    pub(crate) below: &'a [u64],
+    pub(crate) x: Bundle,
+    pub(crate) target: u64,
+    ghost long: { bundles (supply_of supply.now) ≤ length below.now },
+    ghost small: { (p : ℕ) → p < bundles (supply_of supply.now) → slice_index below.now p ≤ 2 ^ 62 },
+    ghost held: { within (units_of x) (supply_of supply.now) ≡ true },
+}
+
+impl Turn<'_> {
+    ghost use Rattle.std.specs.Prelude.{position};
+    ghost use Rattle.sheets.specs.Sheets.{bid_of, bids_of};
+    ghost use Rattle.table.specs.Tables.{entry};
+    ghost use Rattle.vcg.specs.Optimum.{makes, pick};
+
+    // The most that the farms after it and the reserve make of a bundle.
+    fn worth_below(&self, x: &Bundle) -> u64
+        requires { within (units_of x.now) (supply_of self.now.supply.now) ≡ true }
+        ensures value { result ≡ entry (supply_of self.now.supply.now) self.now.below.now (units_of x.now) }
+        ensures small { result ≤ 2 ^ 62 }
+    {
+        self.below[self.supply.place(x)]
+    }
+
+    // Whether a line makes the target.
+    fn reaches(&self, line: &Line) -> bool
+        ensures { result ≡ makes (entry (supply_of self.now.supply.now) self.now.below.now) (units_of self.now.x) self.now.target (bid_of line.now) }
+    {
+        if !line.units.fits(&self.x) {
+            return false;
+        }
+        let left = self.x.minus(&line.units);
+        line.worth as u64 + self.worth_below(&left) == self.target
+    }
+
+    // The first line that makes it.
+    fn first_line(&self, lines: &[Line]) -> Option<usize>
+        ensures { result ≡ position (λ l. makes (entry (supply_of self.now.supply.now) self.now.below.now) (units_of self.now.x) self.now.target (bid_of l)) lines.now }
+    {
+        lines.iter().position(|line| self.reaches(line))
+    }
+
+    // The farm's choice: none where the target is made without it, else its first line that makes it, by its number from 1.
+    pub(crate) fn choose(&self, sheet: &Sheet) -> u64
+        ensures { result ≡ pick (entry (supply_of self.now.supply.now) self.now.below.now) (units_of self.now.x) self.now.target (bids_of sheet.now) }
+    {
+        if self.worth_below(&self.x) == self.target {
+            return 0;
+        }
+        match self.first_line(sheet.lines()) {
+            Some(k) => k as u64 + 1,
+            None => 0,
+        }
+    }
+}
