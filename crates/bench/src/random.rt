@@ -27,6 +27,6 @@ impl Random {
 
     // From 0 to `most`.
     pub fn count(&mut self, most: u8) -> u8 {
-        (self.draw() % (most as u32 + 1)) as u8
+        (self.draw() % (u32::from(most) + 1)) as u8
     }
 }

@@ -10,14 +10,6 @@ then_back (Err d) f y e = absurd (let z : ◌≡◌ {A = ℕ} 0 1 = cc in omega 
 pub then_ok : {A B E : Type 0} (r : Result A E) (f : A → Result B E) (x : A) → r ≡ Ok x → and_then r f ≡ f x
 then_ok r f x h = ap (λ s. and_then s f) h
 
-pub then_err : {A B E : Type 0} (r : Result A E) (f : A → Result B E) (e : E) → r ≡ Err e → and_then r f ≡ Err e
-then_err r f e h = ap (λ s. and_then s f) h
-
--- a check that ends with an `Ok` held
-pub cond_ok : {A E : Type 0} (b : Bool) (x : A) (d : E) (y : A) → cond b (Ok x) (Err d) ≡ Ok y → (b ≡ true) × (x ≡ y)
-cond_ok true x d y e = (refl, cc)
-cond_ok false x d y e = absurd (let z : ◌≡◌ {A = ℕ} 0 1 = cc in omega arith)
-
 -- a check that would have refused did not
 pub cond_past : {A E : Type 0} (b : Bool) (d : E) (r : Result A E) (y : A) → cond b (Err d) r ≡ Ok y → (b ≡ false) × (r ≡ Ok y)
 cond_past true d r y e = absurd (let z : ◌≡◌ {A = ℕ} 0 1 = cc in omega arith)
