@@ -23,6 +23,7 @@ fn pay(charges: &[u64], accounts: &mut [u64]) -> u64
     ensures paid { accounts.new ≡ less accounts.old charges.now }
     ensures income { result ≡ sum charges.now }
 {
+    // By place: behind a zip of both nothing would be known of what is written.
     for (farm, charge) in charges.iter().enumerate() {
         accounts[farm] -= *charge;
     }

@@ -14,8 +14,9 @@ pub(crate) fn charge_all(auction: &Auction, award: &[u64], worth: u64, charges: 
     requires without { charges.old ≡ map (worth_without (lent_auction auction.now)) (range_with_len 0 (length (lent_auction auction.now).bidders)) }
     ensures { charges.new ≡ map (charge_at (lent_auction auction.now)) (range_with_len 0 (length (lent_auction auction.now).bidders)) }
 {
+    // By place: behind a zip of both nothing would be known of what is written.
     for (farm, sheet) in auction.sheets.iter().enumerate() {
-        let stated = chosen_line(sheet, award[farm]).worth as u64;
+        let stated = u64::from(chosen_line(sheet, award[farm]).worth);
         charges[farm] = charges[farm] + stated - worth;
     }
 }

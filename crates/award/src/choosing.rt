@@ -20,6 +20,7 @@ fn no_line() -> Line
     }
 }
 
+// A row for the award holds numbers, as the file and the printed lines do: 0 is none.
 // The line that a choice names; one of no units and no worth at 0, and past the last line.
 pub(crate) fn chosen_line(sheet: &Sheet, number: u64) -> Line
     ensures { bid_of result ≡ chosen (bids_of sheet.now) number }
@@ -40,6 +41,7 @@ pub(crate) fn choose_all(auction: &Auction, table: &[u64], award: &mut [u64])
     let supply = auction.supply;
     let row = supply.bundles();
     let mut x = supply.units();
+    // By place: behind a zip of both nothing would be known of what is written.
     for (farm, sheet) in auction.sheets.iter().enumerate() {
         let turn = Turn {
             supply,

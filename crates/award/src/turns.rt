@@ -42,7 +42,7 @@ impl Turn<'_> {
             return false;
         }
         let left = self.x.minus(&line.units);
-        line.worth as u64 + self.worth_below(&left) == self.target
+        u64::from(line.worth) + self.worth_below(&left) == self.target
     }
 
     // The first line that makes it.

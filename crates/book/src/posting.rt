@@ -9,6 +9,7 @@ use crate::state::Book;
 use bundle::Supply;
 use sheets::{Sheet, read};
 
+// As in `table`, over which the book does not stand.
 const MAX_FARMS: usize = 48;
 
 // The accounts of at most 48 farms, and 0 past them.

@@ -48,7 +48,7 @@ pub made_units : (us xs : List ℕ) → Some us ≡ cond (ltb 12 (length xs)) No
 made_units us xs e = go (ltb 12 (length xs)) refl e
   where
     go : (v : Bool) → ltb 12 (length xs) ≡ v → Some us ≡ cond v None (Some xs) → (length xs ≤ 12) × (us ≡ xs)
-    go true t f = absurd (let z : ◌≡◌ {A = ℕ} 0 1 = cc in omega arith)
+    go true t f = cc
     go false t f = (ltb-false 12 (length xs) t, cc)
 
 -- counts less others, and counts with others

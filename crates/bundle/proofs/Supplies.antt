@@ -1,9 +1,8 @@
 -- Which supplies and prices are taken, lot by lot. Assumes nothing.
 use Rattle.std.proofs.Common.{◌≡◌, ℕ, zero, suc, ◌+◌, ◌*◌, ◌<◌, ◌≤◌, Bool, true, false, cond, ◌||◌, eqb, ltb, ◌⊎◌, List, [], ◌∷◌, length, get_or, drop, Some, None, Ok, Err, Option, refl, ap, ◌∙◌, inl, inr, mul_assoc, arith}
 use Rattle.std.proofs.lemmas.Nat.{mul-le}
-use Rattle.std.proofs.lemmas.List.{at_drop_more, at_drop_all}
+use Rattle.std.proofs.lemmas.List.{at_drop_more}
 use Rattle.std.proofs.lemmas.Bool.{cond-true, cond-false, or_from, or_left, or_right, or_parts, eq-eqb, ne_eqb, lt-ltb, le-ltb, eqb-false, ltb-false}
-use Rattle.bundle.specs.Reserves.{overpriced_lot}
 use Rattle.bundle.specs.Supplies.{Sold, unsold_lot, sold_but, supply_in, SoldExactly}
 use Rattle.bundle.specs.Units.{bundles}
 use Rattle.bundle.specs.declared.refusals.SupplyRefusal.TheVariants.{LotCount}
@@ -19,9 +18,6 @@ test_right n u r = or_from _ _ (ne_eqb u 0 (λ e. omega arith)) (or_from _ _ (le
 pub unsold_next : (us : List ℕ) (i n : ℕ) → i < length us → Right n (get_or us i 0) →
     unsold_lot (drop i us) i n ≡ unsold_lot (drop (i + 1) us) (i + 1) (n * (get_or us i 0 + 1))
 unsold_next us i n h r = at_drop_more (λ l. unsold_lot l i n) us i 0 h ∙ cond-false _ _ _ (test_right n (get_or us i 0) r)
-
-pub unsold_none : (us : List ℕ) (i n : ℕ) → length us ≤ i → unsold_lot (drop i us) i n ≡ None
-unsold_none us i n h = at_drop_all (λ l. unsold_lot l i n) us i h
 
 -- no lot is wrong exactly if each is right
 none_wrong : (us : List ℕ) (j n : ℕ) → n ≤ 4096 → unsold_lot us j n ≡ None →
@@ -72,10 +68,10 @@ lots_right us o h k e =
 
 but_ok : (o : Option ℕ) (us : List ℕ) → sold_but o us ≡ Ok us → o ≡ None
 but_ok None us e = refl
-but_ok (Some j) us e = absurd (let z : ◌≡◌ {A = ℕ} 0 1 = cc in omega arith)
+but_ok (Some j) us e = cc
 
 taken-sold : (us : List ℕ) (b : Bool) → (eqb (length us) 0 || ltb 12 (length us)) ≡ b → cond b (Err LotCount) (sold_but (unsold_lot us 0 1) us) ≡ Ok us → Sold us
-taken-sold us true t e = absurd (let z : ◌≡◌ {A = ℕ} 0 1 = cc in omega arith)
+taken-sold us true t e = cc
 taken-sold us false t e =
     let p = or_parts (eqb (length us) 0) (ltb 12 (length us)) t in
     let some : length us ≡ 0 → ⊥ = eqb-false (length us) 0 p.0 in
@@ -86,6 +82,3 @@ sold_exactly us = (
   taken-sold us _ refl,
   λ s. lots_right us None s.some s.few (none_right us 0 1 s.least s.most (omega (arith, s.small))),
 )
-
-pub overpriced_none : (ps : List ℕ) (i : ℕ) → length ps ≤ i → overpriced_lot (drop i ps) i ≡ None
-overpriced_none ps i h = at_drop_all (λ l. overpriced_lot l i) ps i h

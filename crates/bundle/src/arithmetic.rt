@@ -85,6 +85,7 @@ impl Bundle {
         ensures { units_of result ≡ less (units_of self.now) (units_of other.now) }
     {
         let mut counts = self.counts;
+        // By place: behind a zip of both nothing would be known of what is written.
         for (lot, count) in counts.iter_mut().enumerate() {
             *count = count.saturating_sub(other.counts[lot]);
         }
@@ -99,6 +100,7 @@ impl Bundle {
         ensures { option_map units_of result ≡ (if within (plus (units_of self.now) (units_of other.now)) (replicate 12 255) then Some (plus (units_of self.now) (units_of other.now)) else None) }
     {
         let mut counts = self.counts;
+        // By place: behind a zip of both nothing would be known of what is written.
         for (lot, more) in other.counts.iter().enumerate() {
             counts[lot] = counts[lot].checked_add(*more)?;
         }

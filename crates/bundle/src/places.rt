@@ -92,6 +92,7 @@ impl Supply {
         }
         let mut counts = [0; 12];
         let mut left = place;
+        // By place: behind a zip of both nothing would be known of what is written.
         for (lot, most) in self.units.units().iter().enumerate() {
             let base = usize::from(*most) + 1;
             counts[lot] = (left % base) as u8;
@@ -109,6 +110,7 @@ impl Supply {
     {
         let mut counts = x.counts;
         let lots = self.units.lots.min(x.lots);
+        // By place: behind a zip of both nothing would be known of what is written.
         for (lot, most) in self.units.counts[..lots].iter().enumerate() {
             if counts[lot] < *most {
                 counts[lot] += 1;

@@ -2,6 +2,7 @@
 ghost use Rattle.std.specs.Prelude.{◌≡◌, ℕ, ◌≤◌, length, slice_index};
 
 // The price of a unit of each of at most twelve lots below which the company keeps it: at most 1,000,000; past the last lot 0.
+// Not one generic type with `Bundle`: a bundle is by rule a struct of twelve counts, and only prices have a bound.
 #[derive(Clone, Copy)]
 pub struct Reserve {
     pub(crate) prices: [u32; 12],

@@ -30,6 +30,7 @@ impl Reserve {
         ensures { viewed prices_of result ≡ reserve_in prices.now }
     {
         let mut all = [0; 12];
+        // By place: behind a zip of both nothing would be known of what is written.
         for (lot, price) in prices.iter().enumerate() {
             if *price > MAX_PRICE || lot >= 12 {
                 return Err(ReserveRefusal { lot });

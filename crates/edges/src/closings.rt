@@ -20,10 +20,7 @@ const WANTED: Outcome = Outcome {
 const AGAIN: &[u8] = &[1, 2, 0, 0, 0, 1, 70, 0, 0, 0, 1, 0];
 
 fn lots_of(units: &[u8], prices: &[u32]) -> [Lot; 2] {
-    let mut lots = [Lot {
-        units: 0,
-        reserve: 0,
-    }; 2];
+    let mut lots = [Lot::default(); 2];
     for (lot, (units, reserve)) in lots.iter_mut().zip(units.iter().zip(prices)) {
         *lot = Lot {
             units: *units,

@@ -42,10 +42,7 @@ fn refused(lots: &[Lot], accounts: &[u64], company: u64) -> Option<Fault> {
 
 // The first thirteen lots of these terms.
 fn lots_of(terms: &[(u8, u32)]) -> [Lot; 13] {
-    let mut lots = [Lot {
-        units: 0,
-        reserve: 0,
-    }; 13];
+    let mut lots = [Lot::default(); 13];
     for (lot, (units, reserve)) in lots.iter_mut().zip(terms) {
         *lot = Lot {
             units: *units,

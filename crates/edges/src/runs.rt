@@ -70,15 +70,13 @@ fn three_farms(rt: HostRuntime) -> Result<(), Fail> {
     let mut table = [7; 16];
     let mut award = [7; 3];
     let mut charges = [7; 3];
-    let Ok(session) = run_to_close(
+    let session = run_to_close(
         THREE_FARMS,
         &mut answers,
         &mut table,
         &mut award,
         &mut charges,
-    ) else {
-        return Err(Fail::new("refused"));
-    };
+    )?;
     assert_eq!(rt; closed(session.closing), Ok(130));
     assert!(rt; all_told(&answers, &[None, None, None, Some((2, 99))]));
     assert!(rt; award == [0, 1, 1] && charges == [0, 60, 50]);
@@ -94,9 +92,7 @@ fn too_large(rt: HostRuntime) -> Result<(), Fail> {
     let mut table = [7; 8];
     let mut award = [7; 2];
     let mut charges = [7; 2];
-    let Ok(session) = run_to_close(FILE, &mut answers, &mut table, &mut award, &mut charges) else {
-        return Err(Fail::new("refused"));
-    };
+    let session = run_to_close(FILE, &mut answers, &mut table, &mut award, &mut charges)?;
     assert_eq!(rt; closed(session.closing), Err((15, 0)));
     assert!(rt; all_told(&answers, &[None, Some((7, 6)), Some((2, 0))]));
     assert!(rt; table == [7; 8] && award == [7; 2] && charges == [7; 2]);

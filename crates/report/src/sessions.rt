@@ -46,9 +46,6 @@ impl<'a> Report<'a> {
     pub fn is_closed(&self) -> bool
         ensures { result ≡ is_of_closed self.now }
     {
-        match self {
-            Report::Closed { .. } => true,
-            Report::NotOpened(_) | Report::NotClosed { .. } => false,
-        }
+        matches!(self, Report::Closed { .. })
     }
 }

@@ -19,6 +19,7 @@ const MAX_ACCOUNT: u64 = 1_000_000_000;
 
 const MAX_COMPANY: u64 = 1_000_000_000_000_000;
 
+// The same loop as `read_row` of `session`, and not one function of a crate below both: what other crates can call asks nothing.
 // A part of each of at most twelve lots, by the closure.
 fn column<T: Copy + Default, F: Fn(&Lot) -> T>(lots: &[Lot], part: F) -> [T; 12]
     ghost of: { Lot → T }
@@ -28,6 +29,7 @@ fn column<T: Copy + Default, F: Fn(&Lot) -> T>(lots: &[Lot], part: F) -> [T; 12]
     ensures { take (length lots.now) result ≡ map of lots.now }
 {
     let mut column = [T::default(); 12];
+    // By place: behind a zip of both nothing would be known of what is written.
     for (place, lot) in lots.iter().enumerate() {
         column[place] = part(lot);
     }

@@ -14,7 +14,7 @@ fn split_message(bytes: &[u8]) -> Option<(&[u8], &[u8])>
         [] => None,
         [_] => Some((&[], &[])),
         [low, high, rest @ ..] => {
-            let length = u16::from_le_bytes([*low, *high]) as usize;
+            let length = usize::from(u16::from_le_bytes([*low, *high]));
             Some(rest.split_at(length.min(rest.len())))
         }
     }

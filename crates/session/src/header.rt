@@ -10,11 +10,7 @@ ghost use Rattle.session.specs.Session.{u64_at, lot_in, lots_at, accounts_at, lo
 
 use sale::{Lot, OpeningRefusal, Sale};
 
-const NO_LOT: Lot = Lot {
-    units: 0,
-    reserve: 0,
-};
-
+// By places in the file, as the rules of the opening are: where it ends inside, its size is still what its counts say.
 // The byte at `at`; 0 past the end.
 fn byte_at(file: &[u8], at: usize) -> u8
     ensures { result ≡ slice_index file.now at }
@@ -26,7 +22,7 @@ fn lot_count(file: &[u8]) -> usize
     ensures value { result ≡ lot_count file.now }
     ensures small { result ≤ 255 }
 {
-    byte_at(file, 0) as usize
+    usize::from(byte_at(file, 0))
 }
 
 // How many farms the file names.
@@ -34,7 +30,7 @@ pub fn farm_count(file: &[u8]) -> usize
     ensures value { result ≡ farm_count file.now }
     ensures small { result ≤ 255 }
 {
-    byte_at(file, 1 + lot_count(file) * 5) as usize
+    usize::from(byte_at(file, 1 + lot_count(file) * 5))
 }
 
 // How many bytes the opening has, or would have.
@@ -55,14 +51,15 @@ fn parts<const N: usize>(file: &[u8], from: usize, count: usize) -> &[[u8; N]]
 }
 
 // What `read` makes of each part, at the front of a row: an array, as a library takes no heap.
-fn read_row<P, T: Copy, F: Fn(&P) -> T>(parts: &[P], none: T, read: F) -> [T; 255]
+fn read_row<P, T: Copy + Default, F: Fn(&P) -> T>(parts: &[P], read: F) -> [T; 255]
     ghost of: { P → T }
     requires few { length parts.now ≤ 255 }
     requires callable { F.IsAlwaysCallable read }
     requires gives { (p : P) (t : T) → FnReturnsAt F.Fn read p t → t ≡ of p }
     ensures { take (length parts.now) result ≡ map of parts.now }
 {
-    let mut row = [none; 255];
+    let mut row = [T::default(); 255];
+    // By place: behind a zip of both nothing would be known of what is written.
     for (k, part) in parts.iter().enumerate() {
         row[k] = read(part);
     }
@@ -82,21 +79,21 @@ fn read_lot(part: &[u8; 5]) -> Lot
 fn read_account(part: &[u8; 4]) -> u64
     ensures { result ≡ u32_at part.now 0 }
 {
-    u32::from_le_bytes(*part) as u64
+    u64::from(u32::from_le_bytes(*part))
 }
 
 fn read_lots(file: &[u8], count: usize) -> [Lot; 255]
     requires { (count ≤ 255) × (1 + count * 5 ≤ length file.now) }
     ensures { take count result ≡ lots_at file.now 1 count }
 {
-    read_row(parts(file, 1, count), NO_LOT, read_lot)
+    read_row(parts(file, 1, count), read_lot)
 }
 
 fn read_accounts(file: &[u8], from: usize, count: usize) -> [u64; 255]
     requires { (count ≤ 255) × (from + count * 4 ≤ length file.now) }
     ensures { take count result ≡ accounts_at file.now from count }
 {
-    read_row(parts(file, from, count), 0, read_account)
+    read_row(parts(file, from, count), read_account)
 }
 
 fn long_at(file: &[u8], at: usize) -> u64

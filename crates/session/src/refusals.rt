@@ -4,7 +4,7 @@ ghost use Rattle.session.specs.declared.refusals.RunRefusal.TheVariants.{Opening
 
 use sale::OpeningRefusal;
 
-#[derive(Clone, Copy)]
+#[derive(Clone, Copy, PartialEq, Eq, Debug)]
 pub enum RunRefusal {
     // Its opening is refused.
     Opening(OpeningRefusal),

@@ -23,6 +23,7 @@ fn post_all(mut sale: Sale, file: &[u8], row: &mut [Answer]) -> Sale
     ensures state { state_of result ≡ after (state_of sale) (messages_in file.now) }
     ensures told { row.new ≡ replies (state_of sale) (messages_in file.now) ++ drop (length (messages_in file.now)) row.old }
 {
+    // By place: behind a zip of both nothing would be known of what is written.
     for (k, message) in Messages::of(file).enumerate() {
         let (next, answer) = sale.post(message);
         sale = next;

@@ -38,7 +38,7 @@ module _ (bs : List ℕ) (rows : Rows) (row : List Reply) (each : length row ≡
         λ i. told_text (ended i).answer (all i) (filled i).award (filled i).charges (accounts_of (ended i).stage.state.entries) (ended i).stage.state.company,
         ap (λ (x : Ending). is_ok x.answer) ended,
       )
-  session_from (Err d) e told end value tells filled = absurd (let z : ◌≡◌ {A = ℕ} 0 1 = cc in omega arith)
+  session_from (Err d) e told end value tells filled = cc
 
   -- what a session tells
   pub session_told : (e : Ending) (told : List Reply) (end : Rows) →
@@ -49,7 +49,7 @@ module _ (bs : List ℕ) (rows : Rows) (row : List Reply) (each : length row ≡
 
   refusal_from : (q : Result State OpeningRefusal) (d : OpeningRefusal) → Err (Opening d) ≡ close_ran (close_from q) →
       (not_opened_text d ≡ outcome_text (close_from q)) × (false ≡ is_closed (close_from q))
-  refusal_from (Ok h) d value = absurd (let z : ◌≡◌ {A = ℕ} 0 1 = cc in omega arith)
+  refusal_from (Ok h) d value = cc
   refusal_from (Err c) d value = let here : d ≡ c = cc in (ap not_opened_text here, refl)
 
   -- what a refused opening tells

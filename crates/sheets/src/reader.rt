@@ -58,6 +58,7 @@ fn read_sheet(
     ensures { viewed bids_of result ≡ lines_in (supply_of supply.now) account bytes.now 6 count }
 {
     let mut lines = Sheet::new().lines;
+    // By place: behind a zip of both nothing would be known of what is written.
     for (k, row) in bytes[6..].chunks_exact(size).enumerate() {
         lines[k] = read_line(row, 6 + k * size, supply, account)?;
     }

@@ -1,17 +1,9 @@
 -- What the rows know of sheets: how many lines, and how much one may state. Assumes nothing.
-use Rattle.std.proofs.Common.{◌≡◌, ℕ, zero, suc, ◌^◌, ◌≤◌, List, [], ◌∷◌, map, length, get_or, take, ap, arith}
-use Rattle.std.proofs.lemmas.List.{length-map, length-take-le}
+use Rattle.std.proofs.Common.{ℕ, zero, suc, ◌^◌, ◌≤◌, List, [], ◌∷◌, map, get_or, take, arith}
 use Rattle.sheets.specs.Sheets.{bid_of, bids_of}
 use Rattle.sheets.specs.declared.parts.Line.{Line}
 use Rattle.sheets.specs.declared.parts.Sheet.{Sheet}
 use Rattle.vcg.specs.Auction.{no_bid}
-
-pub few-bids : (s : Sheet) → length (bids_of s) ≤ 32
-unfolding bids_of
-few-bids s = omega (arith, length-map (take s.count s.lines) bid_of, length-take-le s.count s.lines (omega (arith, s.few, s.long)), s.few)
-
-pub few_lines : (s : Sheet) (ls : List Line) → map bid_of ls ≡ bids_of s → length ls ≤ 32
-few_lines s ls is = omega (arith, few-bids s, length-map ls bid_of, ap length is)
 
 line_cap : (ls : List Line) (j : ℕ) → (get_or (map bid_of ls) j no_bid).value ≤ 2 ^ 32
 line_cap [] j = omega arith

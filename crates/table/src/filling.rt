@@ -57,6 +57,7 @@ impl Auction<'_> {
         ensures without { let a = lent_auction self.now in without.new ≡ map (worth_without a) (range_with_len 0 (length a.bidders)) }
     {
         keep_row(self.supply, self.reserve, self.sheets.len(), table);
+        // By place: behind a zip of both nothing would be known of what is written.
         for (farm, sheet) in self.sheets.iter().enumerate().rev() {
             without[farm] = self.worth_without_farm(farm, table);
             fill_row(self.supply, sheet, farm, table);
@@ -74,6 +75,7 @@ impl Auction<'_> {
     }
 }
 
+// The three apart, and not an `Auction`: any number of sheets is answered.
 // Fills the front of the table, and leaves the rest as it was; refused, with no change, for more than 48 farms and where it is too short.
 pub fn fill(
     supply: &Supply,

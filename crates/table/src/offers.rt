@@ -32,6 +32,7 @@ impl<'a> Offers<'a> {
     {
         let lines = sheet.lines();
         let mut places = [0; 32];
+        // By place: behind a zip of both nothing would be known of what is written.
         for (k, line) in lines.iter().enumerate() {
             places[k] = supply.place(&line.units);
         }
@@ -53,7 +54,7 @@ impl<'a> Offers<'a> {
         // No zip with the places: it would look for two ends at each line, in the innermost loop of all.
         for (k, line) in self.lines.iter().enumerate() {
             if line.units.fits(&x) {
-                most = most.max(line.worth as u64 + below[at - self.places[k]]);
+                most = most.max(u64::from(line.worth) + below[at - self.places[k]]);
             }
         }
         most

@@ -1,4 +1,4 @@
-use Rattle.std.proofs.Common.{◌≡◌, [], get_or, ◌+◌, ◌-◌, ◌<◌, length, ap, arith}
+use Rattle.std.proofs.Common.{◌≡◌, [], get_or, ◌+◌, ◌-◌, ◌<◌, length, ap, ◌∙◌, arith}
 use Rattle.std.proofs.lemmas.List.FromFn.{length-map-range_with_len}
 use Rattle.std.proofs.lemmas.List.{length-map}
 use Rattle.bundle.specs.Reserves.{prices_of}
@@ -12,7 +12,7 @@ use Rattle.award.proofs.Bounds.{without-small}
 use Rattle.award.proofs.Reserves.{reserve_grows}
 use Rattle.award.proofs.Picks.{stated-is}
 use Rattle.award.proofs.Rewrites.{halfway_at, halfway_more}
-use Rattle.award.proofs.charging.charge_all.Goals.{After-chosen_line-stated}
+use Rattle.award.proofs.charging.charge_all.Goals.{After-from-stated}
 use Rattle.award.proofs.charging.charge_all.Goals as goal
 
 pub bounds-award-farm : goal.bounds-award-farm
@@ -20,52 +20,54 @@ bounds-award-farm c =
     let a = lent_auction c.args.auction.now in
     omega (arith, ap length c.requires.chosen, length-award a.keep a.bidders a.supply, length-map c.args.auction.now.sheets.now bids_of)
 
-known : (c : After-chosen_line-stated) → c.loop-farm.farm < length (lent_auction c.args.auction.now).bidders
+known : (c : After-from-stated) → c.loop-farm.farm < length (lent_auction c.args.auction.now).bidders
 known c = omega (arith, length-map c.args.auction.now.sheets.now bids_of)
 
 -- what stands in the farm's place, and what it stated for its line
-without : (c : After-chosen_line-stated) → get_or c.loop-farm.charges c.loop-farm.farm 0 ≡ worth_without (lent_auction c.args.auction.now) c.loop-farm.farm
+without : (c : After-from-stated) → get_or c.loop-farm.charges c.loop-farm.farm 0 ≡ worth_without (lent_auction c.args.auction.now) c.loop-farm.farm
 without c =
     let a = lent_auction c.args.auction.now in
     halfway_at (worth_without a) (charge_at a) c.loop-farm.charges c.loop-farm.farm (length a.bidders) (known c) c.loop-farm.invariant
 
-stated : (c : After-chosen_line-stated) → let a = lent_auction c.args.auction.now in
-    c.chosen_line-stated.result.worth ≡ (chosen (get_or a.bidders c.loop-farm.farm []) (get_or (best_choice a) c.loop-farm.farm 0)).value
+stated : (c : After-from-stated) → let a = lent_auction c.args.auction.now in
+    c.from-stated.result ≡ (chosen (get_or a.bidders c.loop-farm.farm []) (get_or (best_choice a) c.loop-farm.farm 0)).value
 stated c =
-    stated-is c.args.auction.now.sheets.now c.args.award.now (best_choice (lent_auction c.args.auction.now)) c.loop-farm.farm c.sheet-item.result c.chosen_line-stated.result
-    c.loop-farm-test.true c.sheet-item.is c.requires.chosen c.chosen_line-stated.ensures
+    c.from-stated.ensures
+    ∙ stated-is c.args.auction.now.sheets.now c.args.award.now (best_choice (lent_auction c.args.auction.now)) c.loop-farm.farm c.sheet-item.result c.chosen_line.result
+    c.loop-farm-test.true c.sheet-item.is c.requires.chosen c.chosen_line.ensures
 
-fits : (c : After-chosen_line-stated) → c.loop-farm.farm < length c.loop-farm.charges
+fits : (c : After-from-stated) → c.loop-farm.farm < length c.loop-farm.charges
 fits c =
     let a = lent_auction c.args.auction.now in
     omega (arith, known c, c.loop-farm.auto.charges, ap length c.requires.without, length-map-range_with_len (worth_without a) 0 (length a.bidders))
 
 pub bounds-charges-farm : goal.bounds-charges-farm
-bounds-charges-farm c = fits (goal.at.bounds-charges-farm c).After-chosen_line-stated
+bounds-charges-farm c = fits (goal.at.bounds-charges-farm c).After-from-stated
 
 pub bounds-charges-farm-in-loop-farm : goal.bounds-charges-farm-in-loop-farm
-bounds-charges-farm-in-loop-farm c = fits (goal.at.bounds-charges-farm-in-loop-farm c).After-chosen_line-stated
+bounds-charges-farm-in-loop-farm c = fits (goal.at.bounds-charges-farm-in-loop-farm c).After-from-stated
 
 pub overflow_add-charges : goal.overflow_add-charges
 overflow_add-charges c =
     let l = c.args.auction.now in
     omega (
       arith,
-      without (goal.at.overflow_add-charges c).After-chosen_line-stated,
+      without (goal.at.overflow_add-charges c).After-from-stated,
       without-small l.supply.now l.reserve.now l.sheets.now c.loop-farm.farm l.few,
-      c.chosen_line-stated.result.small,
+      c.from-stated.ensures,
+      c.chosen_line.result.small,
     )
 
 pub overflow_sub-charges : goal.overflow_sub-charges
 overflow_sub-charges c =
     let a = lent_auction c.args.auction.now in
-    let here = (goal.at.overflow_sub-charges c).After-chosen_line-stated in
+    let here = (goal.at.overflow_sub-charges c).After-from-stated in
     omega (arith, c.requires.best, without here, stated here, charge_room a c.loop-farm.farm (known here) (reserve_grows a.supply (prices_of c.args.auction.now.reserve.now) a.bidders))
 
 pub loop-farm-preserved : goal.loop-farm-preserved
 unfolding charge_at
 loop-farm-preserved c =
     let a = lent_auction c.args.auction.now in
-    let here = (goal.at.loop-farm-preserved c).After-chosen_line-stated in
+    let here = (goal.at.loop-farm-preserved c).After-from-stated in
     halfway_more (worth_without a) (charge_at a) c.loop-farm.charges c.loop-farm.farm (length a.bidders) (known here) c.loop-farm.invariant _
     (λ i. (without here i + stated here i) - c.requires.best i)

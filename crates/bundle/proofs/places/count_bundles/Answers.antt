@@ -1,9 +1,10 @@
 use Rattle.std.proofs.Common.{◌≡◌, ◌+◌, ◌*◌, ◌<◌, ◌≤◌, length, get_or, drop, sym, ap, ◌∙◌, arith}
+use Rattle.std.proofs.lemmas.List.{at_drop_all}
 use Rattle.bundle.specs.Bundles.{units_of}
 use Rattle.bundle.specs.Supplies.{unsold_lot}
 use Rattle.bundle.specs.Units.{bundles}
 use Rattle.bundle.proofs.Steps.{product_step, bundles_end}
-use Rattle.bundle.proofs.Supplies.{Right, unsold_next, unsold_none}
+use Rattle.bundle.proofs.Supplies.{Right, unsold_next}
 use Rattle.bundle.proofs.places.count_bundles.Goals as goal
 
 pub loop-lot-preserved : goal.loop-lot-preserved
@@ -25,6 +26,6 @@ returns c =
     let b = c.args.units.now in
     let i = c.loop-lot.lot in
     let h : length (units_of b) ≤ i = omega (arith, ap length c.units-count-items.ensures) in (
-      sym c.loop-lot.invariant.0 ∙ unsold_none (units_of b) i c.loop-lot.total h,
+      sym c.loop-lot.invariant.0 ∙ at_drop_all (λ l. unsold_lot l i c.loop-lot.total) (units_of b) i h,
       omega (arith, c.loop-lot.invariant.1, ap (λ t. c.loop-lot.total * t) (bundles_end (units_of b) i h)),
     )

@@ -1,4 +1,4 @@
-use Rattle.std.proofs.Common.{◌≡◌, ◌+◌, ◌-◌, get_or, sym, ap, ◌∙◌, arith}
+use Rattle.std.proofs.Common.{◌≡◌, ◌+◌, max, ◌-◌, get_or, sym, ap, ◌∙◌, arith}
 use Rattle.bundle.specs.Bundles.{units_of}
 use Rattle.bundle.specs.Stocks.{supply_of}
 use Rattle.bundle.specs.Units.{bundle_at, place, less, within}
@@ -37,7 +37,7 @@ loop-k-preserved c =
             arith,
             left_of s o.lines.now o.places (units_of c.args.x) c.loop-k.k c.args.at line o.placed c.loop-k-test.true c.line-item.is c.requires.known c.requires.stands w.if-fits.ensures,
           ) in
-          again (better-fits rest x (bid_of line) c.loop-k.most _ c.if-fits.most (w.if-fits.ensures ∙ same) (ap (λ n. line.worth + get_or c.args.below.now n 0) spot) (w.most-is ∙ w.max-most.ensures))
+          again (better-fits rest x (bid_of line) c.loop-k.most _ c.if-fits.most (w.if-fits.ensures ∙ same) (ap (λ n. line.worth + get_or c.args.below.now n 0) spot) (w.most-is ∙ w.max-most.ensures ∙ ap (λ n. max c.loop-k.most (n + get_or c.args.below.now (c.args.at - get_or o.places c.loop-k.k 0) 0)) w.from.ensures))
           ∙ c.loop-k.invariant
       | else-fits w ↦ again (better_misfits rest x (bid_of line) c.loop-k.most c.if-fits.most (w.if-fits.ensures ∙ same) w.most-is) ∙ c.loop-k.invariant
     ]

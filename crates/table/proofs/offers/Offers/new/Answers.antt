@@ -5,7 +5,7 @@ use Rattle.bundle.specs.Stocks.{supply_of}
 use Rattle.bundle.specs.Units.{place}
 use Rattle.sheets.specs.declared.parts.Line.{Line}
 use Rattle.table.specs.Offers.{places_of}
-use Rattle.table.proofs.Sheets.{few_lines}
+use Rattle.sheets.proofs.Over.{few_lines}
 use Rattle.table.proofs.offers.Offers.new.Goals as goal
 
 pub bounds-places-k : goal.bounds-places-k
