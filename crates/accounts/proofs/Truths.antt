@@ -1,7 +1,7 @@
 -- Of two runs of messages that differ in the last taken one of a farm, the one with the true sheet leaves it no worse off. Assumes nothing.
 use Rattle.std.proofs.Common.{◌≡◌, ℕ, ◌+◌, ◌-◌, ◌<◌, ◌≤◌, Bool, true, false, cond, List, [], ◌∷◌, ◌++◌, length, get_or, set, Ok, Err, IsErr, Result, sym, refl, ap, ◌∙◌, subst, ⊎_elim, arith}
 use Rattle.std.specs.List.{AllByRecursion}
-use Rattle.std.proofs.lemmas.List.{ext_get_or, get_or-set_other, get_or-set_same, length-map, length-set, map-set, set-get_or}
+use Rattle.std.proofs.lemmas.List.{ext_get_or, get_or-set_other, get_or-set_same, length-set, map-set, set-get_or}
 use Rattle.std.proofs.lemmas.Bool.{cases_eq, false≢true}
 use Rattle.bundle.specs.Bids.{Bids}
 use Rattle.bundle.proofs.Bundles.{get_or-less}
@@ -16,10 +16,10 @@ use Rattle.vcg.specs.Truth.{worth}
 use Rattle.table.specs.Tables.{at_reserve}
 use Rattle.award.proofs.Reserves.{true_sheet_is_best}
 use Rattle.book.specs.Posting.{Entry, no_entry, accounts_of, numbers_of, bids_in, Reply, read_for, put, post, posts, answer_of, names, told}
-use Rattle.book.proofs.Steps.{account-at, length-post, length-posts, post_other}
+use Rattle.book.proofs.Steps.{account-at, bids-at, length-accounts_of, length-bids_in, length-post, length-posts, post_other}
 use Rattle.book.proofs.Tells.{place_own}
 use Rattle.accounts.specs.Promises.{wealth, TrueSheet, LastTaken, TrueMessageIsBest}
-use Rattle.accounts.proofs.Payments.{accounts_settled, bids-at, charge-within, chosen_held}
+use Rattle.accounts.proofs.Payments.{accounts_settled, charge-within, chosen_held}
 
 -- messages before and after one
 posts-at : (supply : List ℕ) (es : List Entry) (before : List (List ℕ)) (m : List ℕ) (later : List (List ℕ)) →
@@ -56,7 +56,7 @@ stands : (supply : List ℕ) (es : List Entry) (m : List ℕ) (later : List (Lis
 stands supply es m later s read last =
     let i = s.farm in
     let taken = taken_if_read supply (accounts_of es) (numbers_of es) m s read in
-    let known : i < length es = omega (arith, taken.known, length-map es (λ (e : Entry). e.account)) in
+    let known : i < length es = omega (arith, taken.known, length-accounts_of es) in
     let e : Entry = record { account = (get_or es i no_entry).account; number = s.number; bids = s.bids } in
     record {
       long = length-posts supply (post supply es m) later ∙ length-post supply es m;
@@ -64,6 +64,10 @@ stands supply es m later s read last =
       mine = rw (keeps_place supply (post supply es m) i later last, read) (get_or-set_same es i e no_entry known);
       allowed = subst (λ (n : ℕ). Allowed supply n s.bids) (account-at es i) taken.allowed;
     }
+
+-- its bids are those that stand there
+stands-bids : {supply : List ℕ} {es fs : List Entry} {s : Submission} → Stands supply es fs s → get_or (bids_in fs) s.farm [] ≡ s.bids
+stands-bids {supply} {es} {fs} {s} st = bids-at fs s.farm ∙ ap (λ (e : Entry). e.bids) st.mine
 
 -- the places of all other farms are the same with either message
 others_same : (supply : List ℕ) (es : List Entry) (m n : List ℕ) (later : List (List ℕ)) (s t : Submission) (j : ℕ) → read_for supply es m ≡ Ok s → read_for supply es n ≡ Ok t →
@@ -101,10 +105,9 @@ wealth-is supply prices es fs s honest value st true-one =
     let i = s.farm in
     let sheets = bids_in fs in
     let o = outcome_of (at_reserve supply prices sheets) in
-    let bids : get_or sheets i [] ≡ s.bids = bids-at fs i ∙ ap (λ (e : Entry). e.bids) st.mine in
     let account : get_or (accounts_of fs) i 0 ≡ (get_or es i no_entry).account = account-at fs i ∙ ap (λ (e : Entry). e.account) st.mine in
-    let allowed = subst (λ (b : Bids). Allowed supply (get_or es i no_entry).account b) (sym bids) st.allowed in
-    let here : i < length sheets = omega (arith, st.known, st.long, length-map fs (λ (e : Entry). e.bids)) in
+    let allowed = subst (λ (b : Bids). Allowed supply (get_or es i no_entry).account b) (sym (stands-bids st)) st.allowed in
+    let here : i < length sheets = omega (arith, st.known, st.long, length-bids_in fs) in
     let fits = (chosen_held supply (get_or es i no_entry).account (get_or sheets i []) (get_or o.choice i 0) allowed).fits in (
       charge-within supply prices sheets i (get_or es i no_entry).account here allowed,
       omega (
@@ -126,8 +129,7 @@ true_one_first supply prices es m n later s t value first second same st su true
     let gs = posts supply (post supply es n) later in
     let sheets = bids_in fs in
     let known : i < length fs = omega (arith, st.known, st.long) in
-    let bids : get_or sheets i [] ≡ s.bids = bids-at fs i ∙ ap (λ (e : Entry). e.bids) st.mine in
-    let own : sheets ≡ set sheets i s.bids = sym (set-get_or sheets i []) ∙ ap (set sheets i) bids in
+    let own : sheets ≡ set sheets i s.bids = sym (set-get_or sheets i []) ∙ ap (set sheets i) (stands-bids st) in
     let other : bids_in gs ≡ set sheets i t.bids =
     sheets_differ fs gs i t.bids (su.long ∙ sym st.long) known
     (ap (λ k. (get_or gs k no_entry).bids) same ∙ ap (λ (e : Entry). e.bids) su.mine)
@@ -135,7 +137,7 @@ true_one_first supply prices es m n later s t value first second same st su true
     let charge : List Bids → ℕ = λ bs. get_or (outcome_of (at_reserve supply prices bs)).charge i 0 in
     let got : List Bids → ℕ = λ bs. worth s.bids (gets (at_reserve supply prices bs) (outcome_of (at_reserve supply prices bs)) i).want in
     let best : got (set sheets i t.bids) + charge (set sheets i s.bids) ≤ got (set sheets i s.bids) + charge (set sheets i t.bids) =
-    true_sheet_is_best supply prices sheets i s.bids t.bids (omega (arith, known, length-map fs (λ (e : Entry). e.bids))) in
+    true_sheet_is_best supply prices sheets i s.bids t.bids (omega (arith, known, length-bids_in fs)) in
     let x = wealth-is supply prices es fs s s.bids value st true-one in
     let y = wealth-is supply prices es gs t s.bids value su true-one in
     let y-charge : charge (bids_in gs) ≤ (get_or es i no_entry).account = subst (λ (k : ℕ). get_or (outcome_of (at_reserve supply prices (bids_in gs))).charge k 0 ≤ (get_or es k no_entry).account) (sym same) y.0 in
@@ -156,5 +158,4 @@ true_message_is_best supply prices es before later m n s t value first second sa
 pub sheet_stands : (supply : List ℕ) (es : List Entry) (before : List (List ℕ)) (m : List ℕ) (later : List (List ℕ)) (s : Submission) → LastTaken supply es before m later s →
     get_or (bids_in (posts supply es (before ++ m ∷ later))) s.farm [] ≡ s.bids
 sheet_stands supply es before m later s taken =
-    rw (posts-at supply es before m later, bids-at (posts supply (post supply (posts supply es before) m) later) s.farm)
-    (ap (λ (e : Entry). e.bids) (stands supply (posts supply es before) m later s taken.taken taken.last).mine)
+    rw (posts-at supply es before m later) (stands-bids (stands supply (posts supply es before) m later s taken.taken taken.last))

@@ -16,6 +16,8 @@ use bundle::{Reserve, Supply};
 use sheets::Sheet;
 
 // Takes each charge from its account, and answers what they come to together.
+// One place for each farm is asked, as at `settle`.
+#[tactic(auto, using(bundle::proofs::Bundles::less_nil, crate::proofs::Payments::unpaid, crate::proofs::Payments::paid_more), unfolding(bundle::specs::Units::Within))]
 fn pay(charges: &[u64], accounts: &mut [u64]) -> u64
     requires each { length accounts.old ≡ length charges.now }
     requires covered { Within charges.now accounts.old }
@@ -23,7 +25,7 @@ fn pay(charges: &[u64], accounts: &mut [u64]) -> u64
     ensures paid { accounts.new ≡ less accounts.old charges.now }
     ensures income { result ≡ sum charges.now }
 {
-    // By place: behind a zip of both nothing would be known of what is written.
+    // By place: behind a zip over `iter_mut` nothing is known of what was written (tried).
     for (farm, charge) in charges.iter().enumerate() {
         accounts[farm] -= *charge;
     }
@@ -31,6 +33,9 @@ fn pay(charges: &[u64], accounts: &mut [u64]) -> u64
 }
 
 // Decides the sale of these sheets, and takes each charge from its farm's account; refused, with no change, as `decide` refuses.
+// Rows with a place for each farm are plain slices, which have no invariant: that the accounts have one for each sheet is asked.
+// The supply, the reserve and the sheets stand apart, as in `decide`: an `Auction` could only be had by a check that cannot fail here.
+#[tactic(auto, using(crate::proofs::Payments::charges_small))]
 fn settle(
     supply: &Supply,
     reserve: &Reserve,
@@ -55,6 +60,7 @@ fn settle(
 
 // Closes the sale of the sheets in a book: fills the table, writes the award and the charges, takes each charge from its farm's account,
 // and empties all sheets. Refused, with no change, where one of the lent rows has not the length it needs.
+// The table, the award and the charges are lent as slices of `u64`, by a rule of the project, and so here and in `settle` not as a struct.
 pub fn close(
     book: Book,
     reserve: &Reserve,
@@ -70,11 +76,11 @@ pub fn close(
 {
     let supply = book.supply();
     let sheets = book.sheets();
-    let mut all = book.account_array();
-    let accounts = &mut all[0..sheets.len()];
+    let mut accounts = book.account_array();
+    let row = accounts.as_mut_slice();
     // No `?`: the book is handed back with either answer.
-    match settle(&supply, reserve, sheets, table, award, charges, accounts) {
-        Ok(settlement) => (book.emptied(accounts), Ok(settlement)),
+    match settle(&supply, reserve, sheets, table, award, charges, row) {
+        Ok(settlement) => (book.emptied(&accounts), Ok(settlement)),
         Err(refusal) => (book, Err(refusal)),
     }
 }

@@ -2,5 +2,4 @@ pub mod Bounds
 pub mod Decisions
 pub mod Picks
 pub mod Reserves
-pub mod Rewrites
 pub mod Samples

@@ -2,7 +2,7 @@
 use Rattle.std.proofs.Common.{◌≡◌, ℕ, zero, suc, Bool, Some, None, Option, position, ◌+◌, ◌-◌, ◌*◌, ◌<◌, ◌≤◌, true, false, cond, ◌&&◌, ltb, leb, List, [], ◌∷◌, ◌++◌, map, length, get_or, take, drop, set, sym, refl, ap, ◌∙◌, append_assoc, add-one, arith}
 use Rattle.std.proofs.Math.ListN.{get_or-map as get_or-map_own}
 use Rattle.std.proofs.lemmas.Nat.{mul-le}
-use Rattle.std.proofs.lemmas.List.{get_or-map, get_or-take, length-append, take_more_set}
+use Rattle.std.proofs.lemmas.List.{get_or-map, get_or-take, take_more_set}
 use Rattle.std.specs.List.{position_from}
 use Rattle.std.proofs.lemmas.Iterator.Adapters.{position_from-zero}
 use Rattle.std.proofs.lemmas.Bool.{and_from, cond-true, cond-false, ne_eqb, le-leb, lt-ltb}
@@ -13,10 +13,10 @@ use Rattle.sheets.specs.Sheets.{bid_of, bids_of}
 use Rattle.sheets.specs.declared.parts.Line.{Line}
 use Rattle.sheets.specs.declared.parts.Sheet.{Sheet}
 use Rattle.table.specs.Tables.{rows, table_of, entry, onto}
-use Rattle.table.proofs.TableRows.{drop-rows, entry-rows, get_or-rows, get_or-table, length-rows}
+use Rattle.table.proofs.TableRows.{drop-rows, entry-rows, get_or-rows, get_or-table}
 use Rattle.vcg.specs.Auction.{Auction, no_bid, chosen}
 use Rattle.vcg.specs.Optimum.{optimum, best_worth, makes, first_among, pick, award}
-use Rattle.vcg.proofs.Alike.{pick_like}
+use Rattle.vcg.proofs.Alike.{EachWithin, pick_like}
 
 -- the number of a line at a place, and 0 for none
 abbrev pub number_of : Option ℕ → ℕ
@@ -66,17 +66,16 @@ stated-is sheets w award k sheet l h here same is =
 
 module _ (s : List ℕ) (keep : List ℕ → ℕ) (bs : List Bids) (t rest : List ℕ) (filled : t ≡ rows s keep bs ++ rest) (k : ℕ) where
   -- the entry of the bidders from k on
-  pub target_is : (m : ℕ) (x : List ℕ) → m ≡ bundles s → k ≤ length bs → length x ≡ length s → Within x s → get_or t (k * m + place s x) 0 ≡ optimum keep (drop k bs) x
-  target_is m x many h long held =
-      (λ i. get_or (filled i) (k * many i + place s x) 0) ∙ get_or-table s keep bs k rest x h long held
+  pub target_is : (m : ℕ) → m ≡ bundles s → k ≤ length bs → EachWithin s (λ x. get_or t (k * m + place s x) 0 ≡ optimum keep (drop k bs) x)
+  target_is m many h x long held =
+      (λ i. get_or (filled i) (k * many i + place s x) 0) ∙ get_or-table s keep bs k rest h x long held
 
   -- the row below, as it is lent
-  pub below_is : k ≤ length bs → (y : List ℕ) → length y ≡ length s → Within y s → entry s (take (bundles s) (drop (k * bundles s) t)) y ≡ optimum keep (drop k bs) y
-  below_is h y long held =
-      get_or-take (bundles s) (drop (k * bundles s) t) (place s y) 0 (place_below s y held)
-      ∙ ap (λ l. entry s (drop (k * bundles s) l) y) filled
-      ∙ ap (λ l. entry s l y) (drop-rows s keep bs k rest h)
-      ∙ entry-rows s keep (drop k bs) rest y long held
+  pub below_is : (r : List ℕ) → r ≡ take (bundles s) (drop (k * bundles s) t) → k ≤ length bs → EachWithin s (λ y. entry s r y ≡ optimum keep (drop k bs) y)
+  below_is r is h y long held =
+      ap (λ l. entry s l y) is
+      ∙ get_or-take (bundles s) (drop (k * bundles s) t) (place s y) 0 (place_below s y held)
+      ∙ entry-rows s keep (drop k bs) rest _ (ap (drop (k * bundles s)) filled ∙ drop-rows s keep bs k rest h) y long held
 
 -- the row below a farm's, where there is one
 pub lent_below : (t r : List ℕ) (n b k : ℕ) → k < n → n ≤ 48 → (n + 1) * b ≤ length t
@@ -89,12 +88,9 @@ lent_below t r n b k h few long is =
     (and_from (ltb k 48) (leb ((k + 2) * b) (length t)) (lt-ltb k 48 (omega arith)) (le-leb ((k + 2) * b) (length t) fits))
     )
 
-pub table-long : (s : List ℕ) (keep : List ℕ → ℕ) (bs : List Bids) (t rest : List ℕ) → t ≡ rows s keep bs ++ rest → (length bs + 1) * bundles s ≤ length t
-table-long s keep bs t rest is = omega (arith, ap length is, length-append (rows s keep bs) rest, length-rows s keep bs)
-
 -- a farm's choice in front of those after it
 pub award_more : (s : List ℕ) (keep below : List ℕ → ℕ) (b : Bids) (bs ds : List Bids) (x : List ℕ) (n t : ℕ) → ds ≡ b ∷ bs → length x ≡ length s → Within x s
-    → ((y : List ℕ) → length y ≡ length s → Within y s → below y ≡ optimum keep bs y) → t ≡ optimum keep ds x → n ≡ pick below x t b
+    → EachWithin s (λ y. below y ≡ optimum keep bs y) → t ≡ optimum keep ds x → n ≡ pick below x t b
     → award keep ds x ≡ n ∷ award keep bs (less x (chosen b n).want)
 unfolding award
 award_more s keep below b bs ds x n t split long held like is picked =

@@ -1,3 +1,4 @@
 pub mod Deciding
 pub mod Promises
 pub mod Samples
+pub mod Turns

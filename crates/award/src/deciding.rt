@@ -14,6 +14,8 @@ use table::{Auction, fill_with_marginals};
 
 // Fills the table, writes the first best choice and what each farm pays, and answers what the choice is worth;
 // refused, with no change, where there are more than 48 farms or one of the lent rows has not the length it needs.
+// The rows are lent as slices of u64, by a rule of the project: the libraries take no memory from the heap.
+// Supply, reserve and sheets apart, as in `fill`.
 pub fn decide(
     supply: &Supply,
     reserve: &Reserve,

@@ -4,7 +4,7 @@
 mod random;
 mod sales;
 
-use sales::{FARMS, LargeSale, SALES, TABLE_LENGTH};
+use sales::{LargeSale, SALES};
 use std::env;
 use std::process::ExitCode;
 use std::time::{Duration, Instant};
@@ -28,15 +28,14 @@ of bundles, the worth of the best choice, and the sum of the worths without each
 
 const ROUNDS: u32 = 5;
 
-fn for_each_sale<F: Fn(&str, &LargeSale) -> anyhow::Result<()>>(
+fn for_each_sale<F: Fn(LargeSale) -> anyhow::Result<()>>(
     rt: &HostRuntime,
     show: F,
 ) -> anyhow::Result<ExitCode>
     requires { F.IsAlwaysCallable show }
 {
     for terms in &SALES {
-        let sale = LargeSale::new(rt.alloc(), terms)?;
-        show(terms.name, &sale)?;
+        show(LargeSale::new(rt.alloc(), terms)?)?;
     }
     Ok(ExitCode::SUCCESS)
 }
@@ -52,42 +51,38 @@ fn time<F: FnMut() -> anyhow::Result<()>>(rt: &HostRuntime, mut run: F) -> anyho
     Ok(start.elapsed(rt)? / ROUNDS)
 }
 
-fn measure(rt: &HostRuntime, name: &str, sale: &LargeSale) -> anyhow::Result<()> {
-    let mut table = vec![in rt.alloc(); 0u64; TABLE_LENGTH]?;
-    let mut without = vec![in rt.alloc(); 0u64; FARMS]?;
-    let filling = time(rt, || sale.fill(&mut table))?.as_micros();
-    println!(rt; "{name}: fill {filling} us")?;
-    let marginals = time(rt, || sale.fill_with_marginals(&mut table, &mut without))?.as_micros();
-    println!(rt; "{name}: fill with marginals {marginals} us")?;
+fn measure(rt: &HostRuntime, mut sale: LargeSale) -> anyhow::Result<()> {
+    let filling = time(rt, || sale.fill())?.as_micros();
+    println!(rt; "{}: fill {filling} us", sale.name)?;
+    let marginals = time(rt, || sale.fill_with_marginals())?.as_micros();
+    println!(rt; "{}: fill with marginals {marginals} us", sale.name)?;
     Ok(())
 }
 
-fn check(rt: &HostRuntime, name: &str, sale: &LargeSale) -> anyhow::Result<()> {
+fn check(rt: &HostRuntime, mut sale: LargeSale) -> anyhow::Result<()> {
     let bundles = sale.bundles();
-    let mut table = vec![in rt.alloc(); 0u64; TABLE_LENGTH]?;
-    let mut without = vec![in rt.alloc(); 0u64; FARMS]?;
-    sale.fill(&mut table)?;
-    let worth = sale.best_worth(&table);
-    sale.fill_with_marginals(&mut table, &mut without)?;
-    let marginals = without
-        .iter()
-        .fold(0u64, |total, worth| total.saturating_add(*worth));
+    sale.fill()?;
+    let worth = sale.best_worth();
+    sale.fill_with_marginals()?;
+    let marginals = sale.marginals();
+    let name = sale.name;
     println!(rt; "{name}: {bundles} bundles, worth {worth}, without each farm {marginals}")?;
     Ok(())
 }
 
+// Reads the arguments, as close_sale and settle_sale do for theirs: a library's function that only reads and prints would have no contract.
 fn main(rt: HostRuntime) -> anyhow::Result<ExitCode> {
     let mut args = env::args(&rt)?;
     let _program = args.next();
     let Some(word) = args.next() else {
-        return for_each_sale(&rt, |name, sale| measure(&rt, name, sale));
+        return for_each_sale(&rt, |sale| measure(&rt, sale));
     };
     if args.next().is_some() {
         eprintln!(rt; "bench: one argument at most\n{USAGE}")?;
         return Ok(ExitCode::FAILURE);
     }
     match word.as_str() {
-        "--check" => for_each_sale(&rt, |name, sale| check(&rt, name, sale)),
+        "--check" => for_each_sale(&rt, |sale| check(&rt, sale)),
         "--help" => {
             print!(rt; "{HELP}")?;
             Ok(ExitCode::SUCCESS)

@@ -11,7 +11,8 @@ impl Random {
         Random { state: seed }
     }
 
-    // The upper half of the state, since the lower bits repeat soon.
+    // The next number.
+    // It is the upper half of the state, since the lower bits repeat soon.
     fn draw(&mut self) -> u32 {
         self.state = self
             .state

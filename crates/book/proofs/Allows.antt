@@ -4,7 +4,7 @@ use mathlib.Core.HLevel.{hedberg}
 use mathlib.Core.Logic.{∥∥₁_elim}
 use native.Mathlib.Bridge.{le_prop}
 use native.Mathlib.Decide.{ℕ_discrete}
-use Rattle.std.specs.List.{AllByRecursion}
+use Rattle.std.specs.List.{AllByRecursion-prop}
 use Rattle.bundle.specs.Bids.{Bid, Bids}
 use Rattle.bundle.specs.Units.{Within}
 use Rattle.std.proofs.ByRecursion.{All-set}
@@ -29,9 +29,12 @@ pub stays_allowed : StaysAllowed
 stays_allowed supply es [] a = a
 stays_allowed supply es (m ∷ ms) a = stays_allowed supply (post supply es m) ms (put-allowed supply es m (read_for supply es m) refl a)
 
+none_allowed : (supply : List ℕ) (account : ℕ) → Allowed supply account []
+none_allowed supply account = record { few = omega arith; covered = tt }
+
 pub fresh-allowed : (supply accounts : List ℕ) → AllAllowed supply (map fresh accounts)
 fresh-allowed supply [] = tt
-fresh-allowed supply (x ∷ xs) = (record { few = omega arith; covered = tt }, fresh-allowed supply xs)
+fresh-allowed supply (x ∷ xs) = (none_allowed supply x, fresh-allowed supply xs)
 
 pub always_allowed : AlwaysAllowed
 always_allowed supply accounts ms = stays_allowed supply (map fresh accounts) ms (fresh-allowed supply accounts)
@@ -39,13 +42,9 @@ always_allowed supply accounts ms = stays_allowed supply (map fresh accounts) ms
 pub emptied-allowed : (supply accounts ns : List ℕ) → AllAllowed supply (emptied accounts ns)
 emptied-allowed supply [] ns = tt
 emptied-allowed supply (x ∷ xs) [] = tt
-emptied-allowed supply (x ∷ xs) (n ∷ ns) = (record { few = omega arith; covered = tt }, emptied-allowed supply xs ns)
+emptied-allowed supply (x ∷ xs) (n ∷ ns) = (none_allowed supply x, emptied-allowed supply xs ns)
 
 -- that sheets are allowed is shown in one way only, so a book's type can hold it
-all_prop : {X : Type 0} (P : X → Type 0) → ((x : X) → IsProp (P x)) → (xs : List X) → IsProp (AllByRecursion P xs)
-all_prop P each [] a b = refl
-all_prop P each (x ∷ xs) a b = λ i. (each x a.0 b.0 i, all_prop P each xs a.1 b.1 i)
-
 covered_prop : (supply : List ℕ) (account : ℕ) (l : Bid) → IsProp (Covered supply account l)
 unfolding Within
 covered_prop supply account l a b = λ i. record {
@@ -57,12 +56,12 @@ covered_prop supply account l a b = λ i. record {
 allowed_prop : (supply : List ℕ) (account : ℕ) (bids : Bids) → IsProp (Allowed supply account bids)
 allowed_prop supply account bids a b = λ i. record {
   few = le_prop a.few b.few i;
-  covered = all_prop (Covered supply account) (covered_prop supply account) bids a.covered b.covered i;
+  covered = AllByRecursion-prop (Covered supply account) (covered_prop supply account) bids a.covered b.covered i;
 }
 
 pub allowed_had : (supply : List ℕ) (es : List Entry) → ∥ AllAllowed supply es ∥₁ → AllAllowed supply es
 allowed_had supply es h =
-    ∥∥₁_elim h (all_prop (λ (e : Entry). Allowed supply e.account e.bids) (λ (e : Entry). allowed_prop supply e.account e.bids) es) (λ a. a)
+    ∥∥₁_elim h (AllByRecursion-prop (λ (e : Entry). Allowed supply e.account e.bids) (λ (e : Entry). allowed_prop supply e.account e.bids) es) (λ a. a)
 
 -- of a book
 pub book_allowed : (b : Book) → AllAllowed (book_supply b) (entries_of b)

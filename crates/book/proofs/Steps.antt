@@ -1,5 +1,5 @@
 -- One message. Assumes nothing.
-use Rattle.std.proofs.Common.{◌≡◌, ℕ, suc, ◌<◌, ◌≤◌, Bool, true, false, cond, ltb, ◌⊎◌, List, [], ◌∷◌, length, get_or, set, Ok, Err, Result, sym, refl, ap, ◌∙◌, inl, inr, ⊎_elim, arith}
+use Rattle.std.proofs.Common.{◌≡◌, ℕ, suc, ◌<◌, ◌≤◌, Bool, true, false, cond, ltb, ◌⊎◌, List, [], ◌∷◌, length, get_or, set, Ok, Err, Result, sym, refl, ap, ◌∙◌, inl, inr, ⊎_elim, subst, arith}
 use Rattle.std.proofs.Math.ListN.{get_or-map}
 use Rattle.std.proofs.lemmas.List.{length-map, length-set, get_or-set_other, map-set, set-get_or}
 use Rattle.std.proofs.lemmas.Bool.{cases_lt, eqb-true, eqb-false}
@@ -9,11 +9,20 @@ use Rattle.sheets.specs.declared.refusals.MessageRefusal.{MessageRefusal}
 use Rattle.sheets.specs.declared.refusals.MessageRefusal.TheVariants.{Short, NoFarm, OldNumber}
 use Rattle.bundle.specs.Checks.{and_then}
 use Rattle.sheets.specs.Reading.{Submission, u32_at, sender_in, sheet_in, submission_in}
-use Rattle.book.specs.Posting.{Entry, no_entry, accounts_of, read_for, put, post, posts, names, answers}
+use Rattle.book.specs.Posting.{Entry, no_entry, accounts_of, bids_in, read_for, put, post, posts, names, answers}
 
 -- the account of a place, also where there is none
 pub account-at : (es : List Entry) (i : ℕ) → get_or (accounts_of es) i 0 ≡ (get_or es i no_entry).account
 account-at es i = get_or-map (λ (e : Entry). e.account) es i no_entry
+
+pub bids-at : (es : List Entry) (i : ℕ) → get_or (bids_in es) i [] ≡ (get_or es i no_entry).bids
+bids-at es i = get_or-map (λ (e : Entry). e.bids) es i no_entry
+
+pub length-accounts_of : (es : List Entry) → length (accounts_of es) ≡ length es
+length-accounts_of es = length-map es (λ (e : Entry). e.account)
+
+pub length-bids_in : (es : List Entry) → length (bids_in es) ≡ length es
+length-bids_in es = length-map es (λ (e : Entry). e.bids)
 
 -- a message of one of f farms, of which entry_of has the entries
 abbrev pub read_by : List ℕ → ℕ → (ℕ → Entry) → List ℕ → Result Submission MessageRefusal
@@ -21,7 +30,7 @@ read_by supply f entry_of m = and_then (sender_in f m) (λ farm. submission_in s
 
 pub read_is : (supply : List ℕ) (es : List Entry) (m : List ℕ) → read_for supply es m ≡ read_by supply (length es) (λ farm. get_or es farm no_entry) m
 read_is supply es m =
-    λ j. and_then (sender_in (length-map es (λ (e : Entry). e.account) j) m) (λ farm. submission_in supply farm (account-at es farm j) (get_or-map (λ (e : Entry). e.number) es farm no_entry j) m)
+    λ j. and_then (sender_in (length-accounts_of es j) m) (λ farm. submission_in supply farm (account-at es farm j) (get_or-map (λ (e : Entry). e.number) es farm no_entry j) m)
 
 -- an entry under a number and bids, where the bids were read
 abbrev pub under : Entry → ℕ → Result Bids MessageRefusal → Entry
@@ -84,12 +93,17 @@ post-at supply es m a e =
 pub post_none : (supply : List ℕ) (es : List Entry) (m : List ℕ) (e : MessageRefusal) → sender_in (length es) m ≡ Err e → post supply es m ≡ es
 post_none supply es m e h = rw (read_is supply es m, h) refl
 
-pub length-post : (supply : List ℕ) (es : List Entry) (m : List ℕ) → length (post supply es m) ≡ length es
-length-post supply es m =
+-- so what holds of the places before, and of those with the sender's place changed, holds after a message
+after_post : (P : List Entry → Type 0) (supply : List ℕ) (es : List Entry) (m : List ℕ) →
+    (6 ≤ length m → P (set es (get_or m 0 0) (after supply m (get_or es (get_or m 0 0) no_entry)))) → P es → P (post supply es m)
+after_post P supply es m one none =
     ⊎_elim
-    (λ s. rw (post-at supply es m (get_or m 0 0) s.2) (length-set es (get_or m 0 0) (after supply m (get_or es (get_or m 0 0) no_entry))))
-    (λ s. rw (post_none supply es m s.0 s.1) refl)
+    (λ s. subst P (sym (post-at supply es m (get_or m 0 0) s.2)) (one s.0))
+    (λ s. subst P (sym (post_none supply es m s.0 s.1)) none)
     (sender_cases (length es) m)
+
+pub length-post : (supply : List ℕ) (es : List Entry) (m : List ℕ) → length (post supply es m) ≡ length es
+length-post supply es m = after_post (λ ks. length ks ≡ length es) supply es m (λ _. length-set es _ _) refl
 
 pub length-posts : (supply : List ℕ) (es : List Entry) (ms : List (List ℕ)) → length (posts supply es ms) ≡ length es
 length-posts supply es [] = refl
@@ -116,12 +130,9 @@ unnamed i (b ∷ bs) e g = eqb-false b i e
 -- a message leaves the places of all farms that it does not name
 pub post_other : (supply : List ℕ) (es : List Entry) (i : ℕ) (m : List ℕ) → names i m ≡ false → get_or (post supply es m) i no_entry ≡ get_or es i no_entry
 post_other supply es i m e =
-    ⊎_elim
-    (λ s.
-    rw (post-at supply es m (get_or m 0 0) s.2)
-    (get_or-set_other es (get_or m 0 0) i (after supply m (get_or es (get_or m 0 0) no_entry)) no_entry (λ z. unnamed i m e s.0 (sym z))))
-    (λ s. rw (post_none supply es m s.0 s.1) refl)
-    (sender_cases (length es) m)
+    after_post (λ ks. get_or ks i no_entry ≡ get_or es i no_entry) supply es m
+    (λ long. get_or-set_other es (get_or m 0 0) i _ no_entry (λ z. unnamed i m e long (sym z)))
+    refl
 
 pub length-answers : (supply : List ℕ) (es : List Entry) (ms : List (List ℕ)) → length (answers supply es ms) ≡ length ms
 length-answers supply es [] = refl

@@ -29,6 +29,7 @@ abbrev pub tell : List ℕ → ℕ → Entry → List (List ℕ) → List Reply
 tell supply f h [] = []
 tell supply f h (m ∷ ms) = answer_of (mine supply f h m) ∷ tell supply f (next supply f h m) ms
 
+-- the cases of a sender stand here and in `post-own`: each has another statement, and needs the case itself
 read_own : (supply : List ℕ) (es : List Entry) (i : ℕ) (m : List ℕ) → names i m ≡ true → read_for supply es m ≡ mine supply (length es) (get_or es i no_entry) m
 read_own supply es i m e =
     read_is supply es m

@@ -8,6 +8,9 @@ use sheets::Sheet;
 
 // The supply that sheets are checked against, and a place for each of at most 48 farms: the first `farms` of each array.
 // Every sheet is allowed for its farm. Three arrays, and not one of places: reading and closing take the accounts, numbers and sheets as slices.
+// Arrays with a count: a book is `Copy`, as the sale that holds it is, and no `ArrayVec` is.
+// Each method that hands the book back says that the supply is as it was: a book goes by value.
+// It is shown by views and has no `impl Model`: the model of a value that is copied has to give its fields back, and no view shows the places past the farms.
 #[derive(Clone, Copy)]
 pub struct Book {
     pub(crate) supply: Supply,

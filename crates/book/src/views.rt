@@ -1,11 +1,12 @@
 // What a book shows.
-ghost use Rattle.std.specs.Prelude.{◌≡◌, map, length, take, nat_lt};
+ghost use Rattle.std.specs.Prelude.{◌≡◌, map, length, nat_lt};
 ghost use Rattle.bundle.specs.Stocks.{supply_of};
 ghost use Rattle.sheets.specs.Sheets.{bids_of};
 ghost use Rattle.book.specs.Books.{entries_of, book_supply, standing};
 ghost use Rattle.book.specs.Posting.{accounts_of, bids_in};
 
 use crate::state::Book;
+use arrayvec::ArrayVec;
 use bundle::Supply;
 use sheets::Sheet;
 
@@ -18,6 +19,7 @@ fn has_lines(sheet: &Sheet) -> bool
 
 impl Book {
     // How many farms have a sheet with at least one line.
+    #[tactic(auto, using(crate::proofs::Entries::standing_by))]
     pub fn standing(&self) -> usize
         ensures { result ≡ standing (entries_of self.now) }
     {
@@ -35,24 +37,26 @@ impl Book {
     }
 
     // The accounts of the farms.
+    #[tactic(auto, using(crate::proofs::Entries::accounts_book))]
     pub fn accounts(&self) -> &[u64]
         ensures { result.now ≡ accounts_of (entries_of self.now) }
     {
-        &self.accounts[0..self.farms]
+        &self.accounts[..self.farms]
     }
 
-    // The accounts by value, those of the farms first.
-    pub fn account_array(&self) -> [u64; 48]
-        ensures whole { result ≡ self.now.accounts }
-        ensures farms { take (length (entries_of self.now)) result ≡ accounts_of (entries_of self.now) }
+    // The accounts of the farms, by value. There is room for all of them, so the default is never taken.
+    #[tactic(auto, using(crate::proofs::Entries::length_accounts))]
+    pub fn account_array(&self) -> ArrayVec<u64, 48>
+        ensures { result.items ≡ accounts_of (entries_of self.now) }
     {
-        self.accounts
+        ArrayVec::try_from(self.accounts()).unwrap_or_default()
     }
 
     // The sheets of the farms.
+    #[tactic(auto, using(crate::proofs::Entries::bids_book))]
     pub fn sheets(&self) -> &[Sheet]
         ensures { map bids_of result.now ≡ bids_in (entries_of self.now) }
     {
-        &self.sheets[0..self.farms]
+        &self.sheets[..self.farms]
     }
 }

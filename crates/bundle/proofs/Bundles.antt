@@ -75,6 +75,10 @@ pub less-within : (x y : List ℕ) → Within (less x y) x
 unfolding Within
 less-within x y j = simp get_or-less (omega arith)
 
+-- what is left of a bundle within s is within it
+pub less-held : (s x y : List ℕ) → Within x s → Within (less x y) s
+less-held s x y h = within_trans (less x y) x s (less-within x y) h
+
 -- the parts of a sum within x
 pub within-plus_left : (a b x : List ℕ) → Within (plus a b) x → Within a x
 unfolding Within

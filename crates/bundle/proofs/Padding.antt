@@ -2,7 +2,8 @@
 use Rattle.std.proofs.Common.{◌≡◌, ◌&&◌, fold, leb, ℕ, ◌+◌, ◌-◌, ◌<◌, ◌≤◌, max, Bool, true, false, cond, ltb, List, [], ◌∷◌, length, get_or, take, replicate, Some, None, sym, refl, ◌∙◌, ⊎_elim, arith}
 use Rattle.std.specs.List.{zip}
 use Rattle.std.proofs.lemmas.List.{length-take-le, get_or-take, get_or_past, ext_get_or, get_or-replicate}
-use Rattle.std.proofs.lemmas.Bool.{cases_lt, cases_Bool, ltb-false}
+use Rattle.std.proofs.lemmas.Bool.{cases_lt, cases_Bool}
+use Rattle.std.proofs.lemmas.Bool.Decides.{nat_tests}
 use Rattle.bundle.specs.Units.{plus, less, Within, within}
 use Rattle.bundle.specs.Bundles.{units_of}
 use Rattle.bundle.specs.Reserves.{prices_of}
@@ -35,9 +36,9 @@ pub get_or_units : (b : Bundle) (j : ℕ) → get_or (units_of b) j 0 ≡ get_or
 unfolding units_of
 get_or_units b j = get_or-front b.counts b.lots (padding b) j
 
-pub length-prices : (r : Reserve) → length (prices_of r) ≡ r.lots
+pub length_prices : (r : Reserve) → length (prices_of r) ≡ r.lots
 unfolding prices_of
-length-prices r = length_front r.prices r.lots (r.long, r.few, r.padded)
+length_prices r = length_front r.prices r.lots (r.long, r.few, r.padded)
 
 pub get_or-prices : (r : Reserve) (j : ℕ) → get_or (prices_of r) j 0 ≡ get_or r.prices j 0
 unfolding prices_of
@@ -45,30 +46,43 @@ get_or-prices r j = get_or-front r.prices r.lots (r.long, r.few, r.padded) j
 
 -- what `Bundle::new` made
 pub made_units : (us xs : List ℕ) → Some us ≡ cond (ltb 12 (length xs)) None (Some xs) → (length xs ≤ 12) × (us ≡ xs)
-made_units us xs e = go (ltb 12 (length xs)) refl e
-  where
-    go : (v : Bool) → ltb 12 (length xs) ≡ v → Some us ≡ cond v None (Some xs) → (length xs ≤ 12) × (us ≡ xs)
-    go true t f = cc
-    go false t f = (ltb-false 12 (length xs) t, cc)
+made_units us xs e = (grind (arith, nat_tests), grind (arith, nat_tests))
 
--- counts less others, and counts with others
-pub less_front : (zs xs ys : List ℕ) (n m : ℕ) → Padded zs n → Padded xs n → Padded ys m → ((k : ℕ) → get_or zs k 0 ≡ get_or xs k 0 - get_or ys k 0) → take n zs ≡ less (take n xs) (take m ys)
-less_front zs xs ys n m o p q e =
-    ext_get_or 0 (take n zs) (less (take n xs) (take m ys))
-    (omega (arith, length_front zs n o, length_front xs n p, length-less (take n xs) (take m ys)))
-    (λ j h. omega (arith, e j, get_or-front zs n o j, get_or-front xs n p j, get_or-front ys m q j, get_or-less (take n xs) (take m ys) j))
+-- zs holds what f makes of each two counts of a and b, of as many lots as the list that g makes of them
+abbrev pub EachCount : (ℕ → ℕ → ℕ) → Bundle → Bundle → List ℕ → Type 0
+EachCount f a b zs = (k : ℕ) → k < 12 → get_or zs k 0 ≡ f (get_or a.counts k 0) (get_or b.counts k 0)
+
+module _ (f : ℕ → ℕ → ℕ) (g : List ℕ → List ℕ → List ℕ) (gives : (x y : List ℕ) (j : ℕ) → get_or (g x y) j 0 ≡ f (get_or x j 0) (get_or y j 0)) (a b : Bundle) (zs : List ℕ) (l : length zs ≡ 12) (e : EachCount f a b zs) (n : ℕ) (long : length (g (units_of a) (units_of b)) ≡ n) where
+  made_at : (j : ℕ) → j < 12 → get_or zs j 0 ≡ get_or (g (units_of a) (units_of b)) j 0
+  made_at j h = e j h ∙ (λ t. f (sym (get_or_units a j) t) (sym (get_or_units b j) t)) ∙ sym (gives (units_of a) (units_of b) j)
+
+  pub made-units : n ≤ 12 → take n zs ≡ g (units_of a) (units_of b)
+  made-units few =
+      let here : length (take n zs) ≡ n = length-take-le n zs (omega arith) in
+      ext_get_or 0 (take n zs) (g (units_of a) (units_of b)) (here ∙ sym long) (λ j h. get_or-take n zs j 0 (omega arith) ∙ made_at j (omega arith))
+
+  pub made_padded : (j : ℕ) → n ≤ j → get_or zs j 0 ≡ 0
+  made_padded j h =
+      ⊎_elim
+      (λ k. made_at j k ∙ get_or_past (g (units_of a) (units_of b)) j 0 (omega arith))
+      (λ k. get_or_past zs j 0 (omega arith))
+      (cases_lt j 12)
+
+length-less_units : (a b : Bundle) → length (less (units_of a) (units_of b)) ≡ a.lots
+length-less_units a b = length-less (units_of a) (units_of b) ∙ length_units a
+
+-- what is left of a bundle
+pub less_units : (a b : Bundle) (zs : List ℕ) → length zs ≡ 12 → EachCount ◌-◌ a b zs → take a.lots zs ≡ less (units_of a) (units_of b)
+less_units a b zs l e = made-units ◌-◌ less get_or-less a b zs l e a.lots (length-less_units a b) a.few
+
+pub less_padded : (a b : Bundle) (zs : List ℕ) → length zs ≡ 12 → EachCount ◌-◌ a b zs → (j : ℕ) → a.lots ≤ j → get_or zs j 0 ≡ 0
+less_padded a b zs l e = made_padded ◌-◌ less get_or-less a b zs l e a.lots (length-less_units a b)
 
 length-plus_max : (x y : List ℕ) → length (plus x y) ≡ max (length x) (length y)
 unfolding plus
 length-plus_max [] y = omega arith
 length-plus_max (a ∷ x) [] = omega arith
 length-plus_max (a ∷ x) (b ∷ y) = omega (arith, length-plus_max x y)
-
-pub plus_front : (zs xs ys : List ℕ) (n m : ℕ) → Padded zs (max n m) → Padded xs n → Padded ys m → ((k : ℕ) → get_or zs k 0 ≡ get_or xs k 0 + get_or ys k 0) → take (max n m) zs ≡ plus (take n xs) (take m ys)
-plus_front zs xs ys n m o p q e =
-    ext_get_or 0 (take (max n m) zs) (plus (take n xs) (take m ys))
-    (omega (arith, length_front zs (max n m) o, length_front xs n p, length_front ys m q, length-plus_max (take n xs) (take m ys)))
-    (λ j h. omega (arith, e j, get_or-front zs (max n m) o j, get_or-front xs n p j, get_or-front ys m q j, get_or-plus (take n xs) (take m ys) j))
 
 -- lists with the same counts are within the same
 within_if : (x y v w : List ℕ) → ((j : ℕ) → get_or x j 0 ≡ get_or v j 0) → ((j : ℕ) → get_or y j 0 ≡ get_or w j 0) → within x y ≡ true → within v w ≡ true
@@ -119,24 +133,11 @@ sum_too_large a b i h =
     below : (j : ℕ) → get_or {A = ℕ} (replicate 12 255) j 0 ≤ 255
     below j = ⊎_elim (λ g. omega (arith, get_or-replicate {A = ℕ} 12 j 255 0 g)) (λ g. omega (arith, get_or_past {X = ℕ} (replicate 12 255) j 0 g)) (cases_lt j 12)
 
-pub sums : (a b : Bundle) (zs : List ℕ) → length zs ≡ 12 → ((k : ℕ) → k < 12 → get_or zs k 0 ≡ get_or a.counts k 0 + get_or b.counts k 0) →
-    (k : ℕ) → get_or zs k 0 ≡ get_or a.counts k 0 + get_or b.counts k 0
-sums a b zs l e k =
-    ⊎_elim (e k)
-    (λ g. omega (arith, get_or_past zs k 0 (omega arith), get_or_past a.counts k 0 (omega arith), get_or_past b.counts k 0 (omega arith)))
-    (cases_lt k 12)
-
-pub sum_units : (a b : Bundle) (zs : List ℕ) → length zs ≡ 12 → ((k : ℕ) → k < 12 → get_or zs k 0 ≡ get_or a.counts k 0 + get_or b.counts k 0) →
-    take (max a.lots b.lots) zs ≡ plus (units_of a) (units_of b)
-unfolding units_of
+pub sum_units : (a b : Bundle) (zs : List ℕ) → length zs ≡ 12 → EachCount ◌+◌ a b zs → take (max a.lots b.lots) zs ≡ plus (units_of a) (units_of b)
 sum_units a b zs l e =
-    let each = sums a b zs l e in
-    plus_front zs a.counts b.counts a.lots b.lots
-    (l, omega arith, λ j h. omega (arith, each j, a.padded j (omega arith), b.padded j (omega arith)))
-    (padding a) (padding b) each
+    made-units ◌+◌ plus get_or-plus a b zs l e (max a.lots b.lots) (omega (arith, length-plus_max (units_of a) (units_of b), length_units a, length_units b)) (omega (arith, a.few, b.few))
 
-pub sum-within : (a b : Bundle) (zs : List ℕ) → length zs ≡ 12 → ((k : ℕ) → k < 12 → get_or zs k 0 ≡ get_or a.counts k 0 + get_or b.counts k 0) →
-    ((k : ℕ) → k < 12 → get_or zs k 0 ≤ 255) → within (plus (units_of a) (units_of b)) (replicate 12 255) ≡ true
+pub sum-within : (a b : Bundle) (zs : List ℕ) → length zs ≡ 12 → EachCount ◌+◌ a b zs → ((k : ℕ) → k < 12 → get_or zs k 0 ≤ 255) → within (plus (units_of a) (units_of b)) (replicate 12 255) ≡ true
 sum-within a b zs l e h =
     bytes_within (plus (units_of a) (units_of b))
     (omega (arith, length-plus_max (units_of a) (units_of b), length_units a, length_units b))

@@ -1,23 +1,30 @@
 -- Which supplies and prices are taken, lot by lot. Assumes nothing.
-use Rattle.std.proofs.Common.{◌≡◌, ℕ, zero, suc, ◌+◌, ◌*◌, ◌<◌, ◌≤◌, Bool, true, false, cond, ◌||◌, eqb, ltb, ◌⊎◌, List, [], ◌∷◌, length, get_or, drop, Some, None, Ok, Err, Option, refl, ap, ◌∙◌, inl, inr, mul_assoc, arith}
+use Rattle.std.proofs.Common.{◌≡◌, ℕ, zero, suc, ◌+◌, ◌*◌, ◌<◌, ◌≤◌, false, cond, ◌||◌, eqb, leb, ltb, ◌⊎◌, List, [], ◌∷◌, length, get_or, drop, Some, None, Ok, Err, Option, refl, sym, ap, ◌∙◌, inl, inr, mul_assoc, arith}
 use Rattle.std.proofs.lemmas.Nat.{mul-le}
 use Rattle.std.proofs.lemmas.List.{at_drop_more}
-use Rattle.std.proofs.lemmas.Bool.{cond-true, cond-false, or_from, or_left, or_right, or_parts, eq-eqb, ne_eqb, lt-ltb, le-ltb, eqb-false, ltb-false}
+use Rattle.std.proofs.lemmas.Bool.{cond-false}
+use Rattle.std.proofs.lemmas.Bool.Decides.{nat_tests}
+use Rattle.std.specs.List.{enumerate_from, position, position_from}
+use Rattle.std.proofs.lemmas.Iterator.Adapters.{position_from-zero}
+use Rattle.bundle.specs.Reserves.{overpriced_lot}
 use Rattle.bundle.specs.Supplies.{Sold, unsold_lot, sold_but, supply_in, SoldExactly}
 use Rattle.bundle.specs.Units.{bundles}
 use Rattle.bundle.specs.declared.refusals.SupplyRefusal.TheVariants.{LotCount}
 use Rattle.bundle.proofs.Bundles.{bundles_pos}
-use Rattle.bundle.proofs.Checks.{cond_none}
 
 abbrev pub Right : ℕ → ℕ → Type 0
 Right n u = (1 ≤ u) × (u ≤ 64) × (n * (u + 1) ≤ 4096)
 
 test_right : (n u : ℕ) → Right n u → (eqb u 0 || (ltb 64 u || ltb 4096 (n * (u + 1)))) ≡ false
-test_right n u r = or_from _ _ (ne_eqb u 0 (λ e. omega arith)) (or_from _ _ (le-ltb 64 u r.1) (le-ltb 4096 (n * (u + 1)) r.2))
+test_right n u r = grind (arith, nat_tests)
 
 pub unsold_next : (us : List ℕ) (i n : ℕ) → i < length us → Right n (get_or us i 0) →
     unsold_lot (drop i us) i n ≡ unsold_lot (drop (i + 1) us) (i + 1) (n * (get_or us i 0 + 1))
 unsold_next us i n h r = at_drop_more (λ l. unsold_lot l i n) us i 0 h ∙ cond-false _ _ _ (test_right n (get_or us i 0) r)
+
+most_cons : (m u : ℕ) (us : List ℕ) → u ≤ m → ((k : ℕ) → get_or us k 0 ≤ m) → (k : ℕ) → get_or (u ∷ us) k 0 ≤ m
+most_cons m u us most rest zero = most
+most_cons m u us most rest (suc k) = rest k
 
 -- no lot is wrong exactly if each is right
 none_wrong : (us : List ℕ) (j n : ℕ) → n ≤ 4096 → unsold_lot us j n ≡ None →
@@ -25,22 +32,13 @@ none_wrong : (us : List ℕ) (j n : ℕ) → n ≤ 4096 → unsold_lot us j n �
 unfolding bundles
 none_wrong [] j n h e = (λ k l. absurd (omega arith), λ k. omega arith, omega arith)
 none_wrong (u ∷ us) j n h e =
-    let now = cond_none (eqb u 0 || (ltb 64 u || ltb 4096 (n * (u + 1)))) j (unsold_lot us (j + 1) (n * (u + 1))) e in
-    let p = or_parts (eqb u 0) _ now.0 in
-    let q = or_parts (ltb 64 u) _ p.1 in
-    let some : u ≡ 0 → ⊥ = eqb-false u 0 p.0 in
-    let most : u ≤ 64 = ltb-false 64 u q.0 in
-    let small : n * (u + 1) ≤ 4096 = ltb-false 4096 (n * (u + 1)) q.1 in
-    let rest = none_wrong us (j + 1) (n * (u + 1)) small now.1 in
-    (first some rest.0, second most rest.1, omega (arith, rest.2, mul_assoc n (u + 1) (bundles us)))
+    let right : Right n u = (grind (arith, nat_tests), grind (arith, nat_tests), grind (arith, nat_tests)) in
+    let rest = none_wrong us (j + 1) (n * (u + 1)) right.2 (grind (arith, nat_tests)) in
+    (first right.0 rest.0, most_cons 64 u us right.1 rest.1, omega (arith, rest.2, mul_assoc n (u + 1) (bundles us)))
   where
-    first : (u ≡ 0 → ⊥) → ((k : ℕ) → k < length us → 1 ≤ get_or us k 0) → (k : ℕ) → k < length (u ∷ us) → 1 ≤ get_or (u ∷ us) k 0
+    first : 1 ≤ u → ((k : ℕ) → k < length us → 1 ≤ get_or us k 0) → (k : ℕ) → k < length (u ∷ us) → 1 ≤ get_or (u ∷ us) k 0
     first some rest zero l = omega arith
     first some rest (suc k) l = rest k (omega arith)
-
-    second : u ≤ 64 → ((k : ℕ) → get_or us k 0 ≤ 64) → (k : ℕ) → get_or (u ∷ us) k 0 ≤ 64
-    second most rest zero = most
-    second most rest (suc k) = rest k
 
 none_right : (us : List ℕ) (j n : ℕ) → ((k : ℕ) → k < length us → 1 ≤ get_or us k 0) → ((k : ℕ) → get_or us k 0 ≤ 64) → n * bundles us ≤ 4096 → unsold_lot us j n ≡ None
 unfolding bundles
@@ -58,27 +56,47 @@ sold_if us some few e =
 
 -- the count of lots
 pub lots_wrong : (us : List ℕ) → (length us ≡ 0) ⊎ (12 < length us) → supply_in us ≡ Err LotCount
-lots_wrong us (inl e) = cond-true _ _ _ (or_left (eqb (length us) 0) (ltb 12 (length us)) (eq-eqb (length us) 0 e))
-lots_wrong us (inr h) = cond-true _ _ _ (or_right (eqb (length us) 0) (ltb 12 (length us)) (lt-ltb 12 (length us) h))
+lots_wrong us (inl e) = grind (arith, nat_tests)
+lots_wrong us (inr h) = grind (arith, nat_tests)
 
 pub lots_right : (us : List ℕ) (o : Option ℕ) → 1 ≤ length us → length us ≤ 12 → unsold_lot us 0 1 ≡ o → supply_in us ≡ sold_but o us
-lots_right us o h k e =
-    cond-false _ _ _ (or_from (eqb (length us) 0) (ltb 12 (length us)) (ne_eqb (length us) 0 (λ z. omega arith)) (le-ltb 12 (length us) k))
-    ∙ ap (λ p. sold_but p us) e
+lots_right us o h k e = grind (arith, nat_tests)
 
-but_ok : (o : Option ℕ) (us : List ℕ) → sold_but o us ≡ Ok us → o ≡ None
-but_ok None us e = refl
-but_ok (Some j) us e = cc
+-- what is sold is what was asked, and no lot was wrong
+pub sold-own : (o : Option ℕ) (us x : List ℕ) → sold_but o us ≡ Ok x → (o ≡ None) × (x ≡ us)
+sold-own None us x e = (refl, cc)
+sold-own (Some j) us x e = cc
 
-taken-sold : (us : List ℕ) (b : Bool) → (eqb (length us) 0 || ltb 12 (length us)) ≡ b → cond b (Err LotCount) (sold_but (unsold_lot us 0 1) us) ≡ Ok us → Sold us
-taken-sold us true t e = cc
-taken-sold us false t e =
-    let p = or_parts (eqb (length us) 0) (ltb 12 (length us)) t in
-    let some : length us ≡ 0 → ⊥ = eqb-false (length us) 0 p.0 in
-    sold_if us (omega arith) (ltb-false 12 (length us) p.1) (but_ok (unsold_lot us 0 1) us e)
+taken-sold : (us : List ℕ) → supply_in us ≡ Ok us → Sold us
+taken-sold us e =
+    let taken : sold_but (unsold_lot us 0 1) us ≡ Ok us = grind (arith, nat_tests) in
+    sold_if us (grind (arith, nat_tests)) (grind (arith, nat_tests)) (sold-own (unsold_lot us 0 1) us us taken).0
 
 pub sold_exactly : SoldExactly
 sold_exactly us = (
-  taken-sold us _ refl,
+  taken-sold us,
   λ s. lots_right us None s.some s.few (none_right us 0 1 s.least s.most (omega (arith, s.small))),
 )
+
+-- the first price that is wrong, and that none is
+overpriced_from : (ps : List ℕ) (j : ℕ) → position_from (λ (p : ℕ × ℕ). ltb 1000000 p.1 || leb 12 p.0) j (enumerate_from j ps) ≡ overpriced_lot ps j
+overpriced_from [] j = refl
+overpriced_from (p ∷ ps) j = ap (cond (ltb 1000000 p || ltb 11 j) (Some j)) (overpriced_from ps (j + 1))
+
+pub overpriced_first : (ps : List ℕ) → position (λ (p : ℕ × ℕ). ltb 1000000 p.1 || leb 12 p.0) (enumerate_from 0 ps) ≡ overpriced_lot ps 0
+overpriced_first ps = position_from-zero (λ (p : ℕ × ℕ). ltb 1000000 p.1 || leb 12 p.0) (enumerate_from 0 ps) ∙ overpriced_from ps 0
+
+pub overpriced_none : (ps : List ℕ) (j : ℕ) → j ≤ 12 → overpriced_lot ps j ≡ None → (j + length ps ≤ 12) × ((k : ℕ) → get_or ps k 0 ≤ 1000000)
+overpriced_none [] j h e = (omega arith, λ k. omega arith)
+overpriced_none (p ∷ ps) j h e =
+    let few : j + 1 ≤ 12 = grind (arith, nat_tests) in
+    let rest = overpriced_none ps (j + 1) few (grind (arith, nat_tests)) in
+    (omega (arith, rest.0), most_cons 1000000 p ps (grind (arith, nat_tests)) rest.1)
+
+-- where no price is wrong
+pub prices_right : (ps : List ℕ) (o : Option ℕ) → o ≡ position (λ (p : ℕ × ℕ). ltb 1000000 p.1 || leb 12 p.0) (enumerate_from 0 ps) → o ≡ None →
+    (overpriced_lot ps 0 ≡ None) × (length ps ≤ 12) × ((k : ℕ) → get_or ps k 0 ≤ 1000000)
+prices_right ps o e n =
+    let none : overpriced_lot ps 0 ≡ None = sym (overpriced_first ps) ∙ sym e ∙ n in
+    let right = overpriced_none ps 0 (omega arith) none in
+    (none, omega (arith, right.0), right.1)

@@ -8,7 +8,7 @@ use Rattle.bundle.specs.Stocks.{supply_of}
 use Rattle.bundle.specs.Units.{plus, Within}
 use Rattle.bundle.specs.declared.prices.Reserve.{Reserve}
 use Rattle.bundle.specs.declared.stock.Supply.{Supply}
-use Rattle.bundle.proofs.Padding.{length-prices, get_or-prices}
+use Rattle.bundle.proofs.Padding.{length_prices, get_or-prices}
 
 pub priced_nil : (ps : List ℕ) → priced ps [] ≡ 0
 unfolding priced
@@ -44,7 +44,7 @@ priced_most (p ∷ ps) (x ∷ xs) h k =
 pub priced_cap : (r : Reserve) (s : Supply) (y : List ℕ) → Within y (supply_of s) → priced (prices_of r) y ≤ 2 ^ 32
 unfolding Within
 priced_cap r s y w =
-    omega (arith, length-prices r, r.few, priced_most (prices_of r) y (λ j. omega (arith, get_or-prices r j, r.small j)) (λ j. omega (arith, w j, s.most j)))
+    omega (arith, length_prices r, r.few, priced_most (prices_of r) y (λ j. omega (arith, get_or-prices r j, r.small j)) (λ j. omega (arith, w j, s.most j)))
 
 -- what the program adds up
 pub priced_zip : (ps xs : List ℕ) → sum_by (λ (p : ℕ × ℕ). p.0 * p.1) (zip ps xs) ≡ priced ps xs

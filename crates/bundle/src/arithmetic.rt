@@ -1,14 +1,15 @@
 // Bundles: made, compared, added and taken away.
-ghost use Rattle.std.specs.Prelude.{◌≡◌, ℕ, Bool, true, ◌&&◌, fold, nat_le, ◌≤◌, min, length, replicate, if◌then◌else◌, Some, None, nat_lt, slice_index, slice_set};
+ghost use Rattle.std.specs.Prelude.{◌≡◌, ℕ, Bool, true, [], ◌&&◌, fold, nat_le, ◌≤◌, min, length, replicate, if◌then◌else◌, Some, None, nat_lt, slice_index, slice_index_or, slice_set, take, ◌<◌};
 ghost use Rattle.std.specs.List.{zip};
 ghost use Rattle.std.specs.Option.{option_map};
 ghost use Rattle.bundle.specs.Bundles.{units_of};
 ghost use Rattle.bundle.specs.Units.{plus, less, within};
 
 use crate::units::Bundle;
+use std::array;
 
-// Whether each count is at most the one in its place. There is no way out between two of them: all twelve are then compared at once,
-// where the table asks this most often.
+// Whether each count is at most the one in its place.
+// All twelve are compared, with no way out between two of them: so there is no branch, where the table asks this most often.
 fn all_within(counts: &[u8], most: &[u8]) -> bool
     ensures { result ≡ fold (λ (t : Bool) (p : ℕ × ℕ). t && nat_le p.0 p.1) true (zip counts.now most.now) }
 {
@@ -18,8 +19,32 @@ fn all_within(counts: &[u8], most: &[u8]) -> bool
         .fold(true, |fits, (count, most)| fits & (*count <= *most))
 }
 
+// An array of twelve with these items at its front, and defaults behind them.
+// An array, for the reason that stands at `Bundle`.
+pub(crate) fn front<T: Copy + Default>(items: &[T]) -> [T; 12]
+    requires { length items.now ≤ 12 }
+    ensures long { length result ≡ 12 }
+    ensures same { take (length items.now) result ≡ items.now }
+    ensures rest { (j : ℕ) (d : T) → length items.now ≤ j → T.is_default d → T.is_default (slice_index_or result j d) }
+{
+    let mut all = [T::default(); 12];
+    all[..items.len()].copy_from_slice(items);
+    all
+}
+
+// No lots.
+// By hand: no `Default` is derived for a struct with a ghost field.
+impl Default for Bundle {
+    ghost is_default = { λ b. units_of b ≡ [] };
+
+    fn default() -> Bundle {
+        Bundle::empty(0)
+    }
+}
+
 impl Bundle {
     // No units of so many lots, at most twelve.
+    #[tactic(auto, unfolding(crate::specs::Bundles::units_of))]
     pub fn empty(lots: usize) -> Bundle
         ensures { units_of result ≡ replicate (min lots 12) 0 }
     {
@@ -30,6 +55,7 @@ impl Bundle {
     }
 
     // The bundle of these counts; `None` for more than twelve lots.
+    #[tactic(auto, unfolding(crate::specs::Bundles::units_of))]
     pub fn new(counts: &[u8]) -> Option<Bundle>
         ensures { option_map units_of result ≡ (if nat_lt 12 (length counts.now) then None else Some counts.now) }
     {
@@ -37,18 +63,21 @@ impl Bundle {
         if lots > 12 {
             return None;
         }
-        let mut all = [0u8; 12];
-        all[0..lots].copy_from_slice(counts);
-        Some(Bundle { counts: all, lots })
+        Some(Bundle {
+            counts: front(counts),
+            lots,
+        })
     }
 
     // The count of each lot.
+    #[tactic(auto, unfolding(crate::specs::Bundles::units_of))]
     pub fn units(&self) -> &[u8]
         ensures { result.now ≡ units_of self.now }
     {
-        &self.counts[0..self.lots]
+        &self.counts[..self.lots]
     }
 
+    #[tactic(auto, using(crate::proofs::Padding::length_units))]
     pub fn lots(&self) -> usize
         ensures value { result ≡ length (units_of self.now) }
         ensures few { result ≤ 12 }
@@ -64,6 +93,7 @@ impl Bundle {
     }
 
     // The bundle with another count of a lot; as it is where there is no such lot.
+    #[tactic(auto, using(crate::proofs::Padding::length_units), unfolding(crate::specs::Bundles::units_of))]
     pub fn with_count(mut self, lot: usize, count: u8) -> Bundle
         ensures { units_of result ≡ slice_set (units_of self) lot count }
     {
@@ -74,6 +104,7 @@ impl Bundle {
     }
 
     // Whether there is at least as much of every lot in `other`.
+    #[tactic(auto, using(crate::proofs::Padding::counts_within))]
     pub fn fits(&self, other: &Bundle) -> bool
         ensures { result ≡ within (units_of self.now) (units_of other.now) }
     {
@@ -84,11 +115,7 @@ impl Bundle {
     pub fn minus(&self, other: &Bundle) -> Bundle
         ensures { units_of result ≡ less (units_of self.now) (units_of other.now) }
     {
-        let mut counts = self.counts;
-        // By place: behind a zip of both nothing would be known of what is written.
-        for (lot, count) in counts.iter_mut().enumerate() {
-            *count = count.saturating_sub(other.counts[lot]);
-        }
+        let counts = array::from_fn(|lot| self.counts[lot].saturating_sub(other.counts[lot]));
         Bundle {
             counts,
             lots: self.lots,
@@ -100,7 +127,8 @@ impl Bundle {
         ensures { option_map units_of result ≡ (if within (plus (units_of self.now) (units_of other.now)) (replicate 12 255) then Some (plus (units_of self.now) (units_of other.now)) else None) }
     {
         let mut counts = self.counts;
-        // By place: behind a zip of both nothing would be known of what is written.
+        // By place: behind a zip over `iter_mut` nothing is known of what was written (tried), and `array::try_from_fn` does not tie its
+        // calls to the closure that is passed.
         for (lot, more) in other.counts.iter().enumerate() {
             counts[lot] = counts[lot].checked_add(*more)?;
         }

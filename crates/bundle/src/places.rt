@@ -63,6 +63,7 @@ impl Supply {
     }
 
     // The place of a bundle among them.
+    #[tactic(auto, using(crate::proofs::Steps::place_like, crate::proofs::Padding::get_or_units))]
     pub fn place(&self, x: &Bundle) -> usize
         ensures { result ≡ place (supply_of self.now) (units_of x.now) }
     {
@@ -70,6 +71,7 @@ impl Supply {
     }
 
     // The number that the counts of the last `left` lots make.
+    // By recursion over the lots that are left, by a rule of the project.
     fn place_of_last(&self, x: &Bundle, left: usize) -> usize
         requires { left ≤ self.now.units.lots }
         ensures is { result ≡ place (drop (self.now.units.lots - left) (supply_of self.now)) (drop (self.now.units.lots - left) x.now.counts) }
@@ -79,8 +81,8 @@ impl Supply {
             return 0;
         }
         let lot = self.units.lots - left;
-        let rest = self.place_of_last(x, left - 1);
-        x.counts[lot] as usize + (self.units.counts[lot] as usize + 1) * rest
+        let base = usize::from(self.units.counts[lot]) + 1;
+        usize::from(x.counts[lot]) + base * self.place_of_last(x, left - 1)
     }
 
     // The bundle at a place; `None` past the last.
@@ -92,7 +94,8 @@ impl Supply {
         }
         let mut counts = [0; 12];
         let mut left = place;
-        // By place: behind a zip of both nothing would be known of what is written.
+        // By place: behind a zip over `iter_mut` nothing is known of what was written (tried), and `array::from_fn` will not do, since each
+        // count depends on what those before it leave.
         for (lot, most) in self.units.units().iter().enumerate() {
             let base = usize::from(*most) + 1;
             counts[lot] = (left % base) as u8;
@@ -105,12 +108,13 @@ impl Supply {
     }
 
     // The bundle at the next place: one unit more of the first lot that has not all its units yet, and none of the lots before it.
+    #[tactic(auto, unfolding(crate::specs::Bundles::units_of))]
     pub fn next(&self, x: &Bundle) -> Bundle
         ensures { units_of result ≡ next (supply_of self.now) (units_of x.now) }
     {
         let mut counts = x.counts;
         let lots = self.units.lots.min(x.lots);
-        // By place: behind a zip of both nothing would be known of what is written.
+        // By place: behind a zip over `iter_mut` nothing is known of what was written (tried).
         for (lot, most) in self.units.counts[..lots].iter().enumerate() {
             if counts[lot] < *most {
                 counts[lot] += 1;

@@ -1,16 +1,27 @@
 // The reserve: made and read, and what a bundle is worth at it.
-ghost use Rattle.std.specs.Prelude.{◌≡◌, ℕ, ◌*◌, ◌≤◌, length, sum_by, slice_index};
-ghost use Rattle.std.specs.List.{zip};
+ghost use Rattle.std.specs.Prelude.{◌≡◌, ℕ, ◌*◌, ◌≤◌, length, sum_by, slice_index, position, nat_lt, nat_le, ◌||◌};
+ghost use Rattle.std.specs.List.{zip, enumerate_from};
 ghost use Rattle.bundle.specs.Bundles.{units_of};
 ghost use Rattle.bundle.specs.Checks.{viewed};
 ghost use Rattle.bundle.specs.Reserves.{prices_of, reserve_in, priced};
 
+use crate::arithmetic::front;
 use crate::prices::Reserve;
 use crate::refusals::ReserveRefusal;
 use crate::units::Bundle;
 
 // Cents a unit.
 const MAX_PRICE: u32 = 1_000_000;
+
+// The first lot whose price is too high, or that is past the twelfth.
+fn overpriced(prices: &[u32]) -> Option<usize>
+    ensures { result ≡ position (λ (p : ℕ × ℕ). nat_lt 1000000 p.1 || nat_le 12 p.0) (enumerate_from 0 prices.now) }
+{
+    prices
+        .iter()
+        .enumerate()
+        .position(|(lot, price)| *price > MAX_PRICE || lot >= 12)
+}
 
 // What so many units of each lot come to.
 fn total(prices: &[u32], counts: &[u8]) -> u64
@@ -29,24 +40,20 @@ impl Reserve {
     pub fn new(prices: &[u32]) -> Result<Reserve, ReserveRefusal>
         ensures { viewed prices_of result ≡ reserve_in prices.now }
     {
-        let mut all = [0; 12];
-        // By place: behind a zip of both nothing would be known of what is written.
-        for (lot, price) in prices.iter().enumerate() {
-            if *price > MAX_PRICE || lot >= 12 {
-                return Err(ReserveRefusal { lot });
-            }
-            all[lot] = *price;
+        if let Some(lot) = overpriced(prices) {
+            return Err(ReserveRefusal { lot });
         }
         Ok(Reserve {
-            prices: all,
+            prices: front(prices),
             lots: prices.len(),
         })
     }
 
+    #[tactic(auto, unfolding(crate::specs::Reserves::prices_of))]
     fn prices(&self) -> &[u32]
         ensures { result.now ≡ prices_of self.now }
     {
-        &self.prices[0..self.lots]
+        &self.prices[..self.lots]
     }
 
     // The price of a unit of a lot; 0 where there is no such lot.
@@ -57,6 +64,7 @@ impl Reserve {
     }
 
     // What a bundle is worth at these prices.
+    #[tactic(auto, using(crate::proofs::Worths::priced_zip, crate::proofs::Padding::length_prices))]
     pub fn worth(&self, x: &Bundle) -> u64
         ensures { result ≡ priced (prices_of self.now) (units_of x.now) }
     {

@@ -6,6 +6,7 @@ ghost use Rattle.bundle.specs.Units.{bundles};
 use crate::units::Bundle;
 
 // The units for sale of each lot: 1 to 12 lots, 1 to 64 units of each, and at most 4,096 bundles, which `total` counts.
+// Shown by a view, as a bundle is.
 #[derive(Clone, Copy)]
 pub struct Supply {
     pub(crate) units: Bundle,

@@ -1,8 +1,10 @@
 // Theorems about supplies and places.
+// Where no lemma is named here, the search does not take it (tried), and an answer names it.
 ghost use Rattle.bundle.specs.Supplies.{SoldExactly};
 ghost use Rattle.bundle.specs.Units.{PlacesMetOnce, PlacesBelow, PlaceOfDifference, NextPlace};
 
 // A supply is taken exactly if it has 1 to 12 lots, 1 to 64 units of each, and at most 4,096 bundles.
+#[tactic(auto, using(crate::proofs::Supplies::sold_exactly))]
 pub fn sold_exactly_stands()
     ensures { SoldExactly }
 {}
@@ -13,6 +15,7 @@ pub fn places_met_once_stands()
 {}
 
 // Each bundle within the supply has such a place.
+#[tactic(auto, using(crate::proofs::Bundles::place_below))]
 pub fn places_below_stands()
     ensures { PlacesBelow }
 {}
@@ -23,6 +26,7 @@ pub fn place_of_difference_stands()
 {}
 
 // The next bundle is the one at the next place.
+#[tactic(auto, using(crate::proofs::Bundles::next_place))]
 pub fn next_place_stands()
     ensures { NextPlace }
 {}

@@ -38,7 +38,7 @@ fn print_sale(rt: &HostRuntime, sale: &Sale, answers: &[Answer]) -> io::Result<E
 fn print_refusal(rt: &HostRuntime, refusal: RunRefusal) -> io::Result<ExitCode> {
     match refusal {
         RunRefusal::Opening(refusal) => {
-            let report = Report::of_refusal(refusal);
+            let report = Report::from(refusal);
             print!(rt; "{report}")?;
         }
         RunRefusal::Room(count) => eprintln!(rt; "close_sale: no room for {count} answers")?,

@@ -4,9 +4,11 @@ use sale::ClosingRefusal;
 use sheets::{MessageRefusal, Refusal};
 
 // An answer that no message is given: one that is refused for fewer than six bytes does not have 99.
+// It stands for a place that is not written, so that the whole row is compared alike; an `Option` would not do, since the row that is lent holds answers.
 pub const UNTOLD: Answer = Err(MessageRefusal::Short(99));
 
 // The number of a check that fails, and the place of the fault.
+// In numbers, as the list of refusals has them, so that `number` and `place` are tried too.
 pub type Fault = (u8, usize);
 
 pub fn fault<R: Refusal + Copy>(refusal: R) -> Fault {
@@ -27,11 +29,10 @@ pub fn told_in_life(answer: Result<Answer, ClosingRefusal>) -> Option<Fault> {
 
 // Whether these are the answers, in numbers.
 pub fn all_told(answers: &[Answer], wanted: &[Option<Fault>]) -> bool {
-    answers.len() == wanted.len()
-        && answers
-            .iter()
-            .zip(wanted)
-            .all(|(answer, fault)| told(*answer) == *fault)
+    answers
+        .iter()
+        .map(|answer| told(*answer))
+        .eq(wanted.iter().copied())
 }
 
 // The worth of a close, or its refusal in numbers.

@@ -10,11 +10,15 @@ mod bundles;
 #[cfg(test)]
 mod closings;
 #[cfg(test)]
+mod cuts;
+#[cfg(test)]
 mod files;
 #[cfg(test)]
 mod messages;
 #[cfg(test)]
 mod openings;
+#[cfg(test)]
+mod rows;
 #[cfg(test)]
 mod runs;
 #[cfg(test)]

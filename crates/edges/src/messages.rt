@@ -1,7 +1,7 @@
 // Messages on both sides of each limit.
 use crate::answers::{Fault, told};
+use crate::samples::two_farms;
 use bundle::Bundle;
-use sale::{Lot, Sale};
 use sheets::{Line, Message, Sheet, write};
 use std::test::Fail;
 
@@ -39,24 +39,9 @@ const MESSAGES: [(&[u8], Option<Fault>); 19] = [
     ),
 ];
 
-// Two lots of 2 and 3 units, and two farms with 100 and 50.
-fn sale() -> Result<Sale, Fail> {
-    let lots = [
-        Lot {
-            units: 2,
-            reserve: 0,
-        },
-        Lot {
-            units: 3,
-            reserve: 0,
-        },
-    ];
-    Ok(Sale::open(&lots, &[100, 50], 0)?)
-}
-
 #[test]
 fn refusals(rt: HostRuntime) -> Result<(), Fail> {
-    let (sale, answer) = sale()?.post(&[0, 255, 1, 0, 0, 0]);
+    let (sale, answer) = two_farms()?.post(&[0, 255, 1, 0, 0, 0]);
     assert_eq!(rt; told(answer), None);
     for (bytes, wanted) in MESSAGES {
         let (_, answer) = sale.post(bytes);
@@ -68,7 +53,7 @@ fn refusals(rt: HostRuntime) -> Result<(), Fail> {
 // Lines of no units and no worth: 32 of them, 33 of them, and a byte more or less.
 #[test]
 fn counts(rt: HostRuntime) -> Result<(), Fail> {
-    let sale = sale()?;
+    let sale = two_farms()?;
     let cases = [
         (32, 198, None),
         (32, 197, Some((6, 197))),
@@ -77,11 +62,9 @@ fn counts(rt: HostRuntime) -> Result<(), Fail> {
         (33, 198, Some((5, 5))),
     ];
     for (count, size, wanted) in cases {
-        let mut bytes = [0u8; 204];
-        bytes[1] = 1;
-        bytes[5] = count;
-        assert!(rt; size <= 204);
-        let (_, answer) = sale.post(&bytes[0..size]);
+        let mut bytes = vec![in rt.alloc(); 0, 1, 0, 0, 0, count]?;
+        bytes.resize(size, 0)?;
+        let (_, answer) = sale.post(&bytes);
         assert_eq!(rt; told(answer), wanted);
     }
     Ok(())
@@ -96,7 +79,7 @@ fn replaced(rt: HostRuntime) -> Result<(), Fail> {
         (&[0, 1, 0, 0, 0, 0], 2),
         (&[0, 2, 0, 0, 0, 0], 1),
     ];
-    let mut sale = sale()?;
+    let mut sale = two_farms()?;
     for (bytes, standing) in messages {
         let (next, _) = sale.post(bytes);
         sale = next;
@@ -120,10 +103,10 @@ fn written(rt: HostRuntime) -> Result<(), Fail> {
         number: 258,
         sheet,
     };
-    let mut out = [9u8; 13];
+    let mut out = vec![in rt.alloc(); 9; 13]?;
     assert_eq!(rt; write(&message, &mut out[0..11]), None);
-    assert!(rt; out == [9; 13]);
+    assert!(rt; out.as_slice() == [9; 13].as_slice());
     assert_eq!(rt; write(&message, &mut out), Some(12));
-    assert!(rt; out == [1, 2, 1, 0, 0, 1, 77, 0, 0, 0, 2, 1, 9]);
+    assert!(rt; out.as_slice() == [1, 2, 1, 0, 0, 1, 77, 0, 0, 0, 2, 1, 9].as_slice());
     Ok(())
 }

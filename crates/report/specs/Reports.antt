@@ -6,12 +6,12 @@ use Rattle.report.specs.declared.reports.Report.TheVariants.{NotOpened, NotClose
 
 abbrev pub text_of : Report → List ℕ
 text_of (NotOpened refusal) = not_opened_text refusal
-text_of (NotClosed answers refusal) = not_closed_text answers.now refusal
-text_of (Closed answers worth award charges accounts company) =
-    closed_text answers.now worth award.now charges.now accounts.now company
+text_of (NotClosed refusals refusal) = not_closed_text refusals.answers.now refusal
+text_of (Closed refusals worth farms company) =
+    closed_text refusals.answers.now worth farms.award.now farms.charges.now farms.accounts.now company
 
 -- whether it is that of a closed sale
 abbrev pub is_of_closed : Report → Bool
 is_of_closed (NotOpened refusal) = false
-is_of_closed (NotClosed answers refusal) = false
-is_of_closed (Closed answers worth award charges accounts company) = true
+is_of_closed (NotClosed refusals refusal) = false
+is_of_closed (Closed refusals worth farms company) = true

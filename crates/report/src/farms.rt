@@ -5,6 +5,7 @@ ghost use Rattle.report.specs.Lines.{farm_lines};
 use std::fmt;
 
 // A line for each farm, of as many as all three rows have: the number of the line that it got (0 for none), what it pays, and what its account holds then.
+// Rows apart, since award and charges are lent as slices.
 #[derive(Clone, Copy)]
 pub struct Farms<'a> {
     pub award: &'a [u64],

@@ -4,7 +4,6 @@ ghost use Rattle.report.specs.Reports.{text_of};
 
 use crate::farms::Farms;
 use crate::refusals::{Refusals, Refused};
-use book::Answer;
 use sale::{ClosingRefusal, OpeningRefusal};
 use std::fmt;
 
@@ -12,16 +11,14 @@ use std::fmt;
 pub enum Report<'a> {
     NotOpened(OpeningRefusal),
     NotClosed {
-        answers: &'a [Answer],
+        refusals: Refusals<'a>,
         refusal: ClosingRefusal,
     },
     // The rows have an entry for each farm; the accounts are those after the close.
     Closed {
-        answers: &'a [Answer],
+        refusals: Refusals<'a>,
         worth: u64,
-        award: &'a [u64],
-        charges: &'a [u64],
-        accounts: &'a [u64],
+        farms: Farms<'a>,
         company: u64,
     },
 }
@@ -35,27 +32,16 @@ impl<'a> fmt::Display for Report<'a> {
                 let refused = Refused(refusal);
                 write!(f, "sale {refused}")
             }
-            Report::NotClosed { answers, refusal } => {
-                let messages = Refusals { answers };
+            Report::NotClosed { refusals, refusal } => {
                 let refused = Refused(refusal);
-                write!(f, "{messages}sale {refused}")
+                write!(f, "{refusals}sale {refused}")
             }
             Report::Closed {
-                answers,
+                refusals,
                 worth,
-                award,
-                charges,
-                accounts,
+                farms,
                 company,
-            } => {
-                let messages = Refusals { answers };
-                let farms = Farms {
-                    award,
-                    charges,
-                    accounts,
-                };
-                writeln!(f, "{messages}worth {worth}\n{farms}company {company}")
-            }
+            } => writeln!(f, "{refusals}worth {worth}\n{farms}company {company}"),
         }
     }
 }

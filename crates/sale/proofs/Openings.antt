@@ -1,5 +1,5 @@
 -- When a sale is opened, check by check. Assumes nothing.
-use Rattle.std.proofs.Common.{◌≡◌, ℕ, zero, suc, ◌+◌, ◌≤◌, ◌||◌, eqb, ltb, List, [], ◌∷◌, map, length, get_or, Some, None, Ok, Err, Option, Result, refl, ap, ◌∙◌, subst, ⊎_elim, arith}
+use Rattle.std.proofs.Common.{◌≡◌, ℕ, suc, ◌+◌, ◌≤◌, ◌||◌, eqb, ltb, List, [], ◌∷◌, map, length, get_or, Some, None, Ok, Err, Option, Result, refl, ap, ◌∙◌, subst, ⊎_elim, arith}
 use Rattle.std.specs.List.{position_or_len}
 use Rattle.std.specs.Result.{result_map_both}
 use Rattle.std.proofs.lemmas.List.{length-map, get_or_past}
@@ -7,7 +7,7 @@ use Rattle.std.proofs.lemmas.List.Sums.{fails_before_first, position_or_len_is}
 use Rattle.std.proofs.lemmas.Bool.{cases_lt, le-ltb, ltb-false}
 use Rattle.std.proofs.lemmas.Bool.Decides.{nat_tests}
 use Rattle.bundle.proofs.Checks.{then_back, cond_past, cond_none}
-use Rattle.bundle.proofs.Supplies.{sold_exactly}
+use Rattle.bundle.proofs.Supplies.{overpriced_none, sold-own, sold_exactly}
 use Rattle.bundle.specs.Reserves.{overpriced_lot, priced_but, reserve_in}
 use Rattle.bundle.specs.Supplies.{Sold, unsold_lot, sold_but, supply_in}
 use Rattle.bundle.specs.declared.refusals.SupplyRefusal.TheVariants.{LotCount as NoSupply}
@@ -31,12 +31,7 @@ funded_none xs h =
     let end = position_or_len_is (ltb 1000000000) xs (length xs) 0 (omega arith) (λ k _. le-ltb 1000000000 (get_or xs k 0) (h k)) (λ z. absurd (omega arith)) in
     grind (arith, nat_tests, end)
 
--- the same of the prices, of at most twelve lots
-pub priced_if : (ps : List ℕ) (j : ℕ) → overpriced_lot ps j ≡ None → (k : ℕ) → get_or ps k 0 ≤ 1000000
-priced_if [] j e k = omega arith
-priced_if (p ∷ ps) j e zero = grind (arith, nat_tests)
-priced_if (p ∷ ps) j e (suc k) = priced_if ps (j + 1) (grind (arith, nat_tests)) k
-
+-- no price is too high where each is within its bound, of at most twelve lots
 pub priced_none : (ps : List ℕ) (j : ℕ) → j + length ps ≤ 12 → ((k : ℕ) → get_or ps k 0 ≤ 1000000) → overpriced_lot ps j ≡ None
 priced_none [] j few h = refl
 priced_none (p ∷ ps) j few h =
@@ -45,10 +40,6 @@ priced_none (p ∷ ps) j few h =
     grind (arith, nat_tests)
 
 -- what a reader gives, if it gives anything, is what it was given
-sold-own : (o : Option ℕ) (us x : List ℕ) → sold_but o us ≡ Ok x → x ≡ us
-sold-own None us x e = cc
-sold-own (Some j) us x e = cc
-
 priced-own : (o : Option ℕ) (ps x : List ℕ) → priced_but o ps ≡ Ok x → (o ≡ None) × (x ≡ ps)
 priced-own None ps x e = (refl, cc)
 priced-own (Some j) ps x e = cc
@@ -67,13 +58,13 @@ lots_taken : (us x : List ℕ) → lots_checked (supply_in us) ≡ Ok x → Sold
 lots_taken us x e =
     let read = kept_back supply_refused (supply_in us) x e in
     let past = cond_past (eqb (length us) 0 || ltb 12 (length us)) NoSupply (sold_but (unsold_lot us 0 1) us) x read in
-    let own = sold-own (unsold_lot us 0 1) us x past.1 in
+    let own = (sold-own (unsold_lot us 0 1) us x past.1).1 in
     ((sold_exactly us).0 (read ∙ ap Ok own), own)
 
 prices-taken : (ps x : List ℕ) → prices_checked (reserve_in ps) ≡ Ok x → ((j : ℕ) → get_or ps j 0 ≤ 1000000) × (x ≡ ps)
 prices-taken ps x e =
     let own = priced-own (overpriced_lot ps 0) ps x (kept_back price_refused (reserve_in ps) x e) in
-    (priced_if ps 0 own.0, own.1)
+    ((overpriced_none ps 0 (omega arith) own.0).1, own.1)
 
 farms_taken : (xs x : List ℕ) → farms_checked xs ≡ Ok x → (1 ≤ length xs) × (length xs ≤ 48) × (x ≡ xs)
 farms_taken xs x e = (grind (arith, nat_tests), grind (arith, nat_tests), grind (arith, nat_tests))

@@ -15,6 +15,7 @@ use book::Answer;
 impl Sale {
     // Closes the sale, and answers what the award is worth: the table, the award and the charges stand in the lent rows, each charge is taken
     // from its farm's account and added to the company's, and all sheets are emptied. What is refused changes nothing.
+    // The rows are lent as slices of `u64`, by a rule of the project, and so not as a struct.
     pub fn close(
         self,
         table: &mut [u64],
@@ -54,7 +55,7 @@ impl Life {
         (Life::Open(sale), Ok(answer))
     }
 
-    // Closes the sale as `Sale::close` does; a closed sale is not closed again.
+    // Closes the sale as `Sale::close` does; a closed sale is not closed again. The rows are lent as there.
     pub fn close(
         self,
         table: &mut [u64],

@@ -1,14 +1,14 @@
 // Opens a sale. The checks stand in the order in which an opening is checked.
-ghost use Rattle.std.specs.Prelude.{◌≡◌, ◌≤◌, [], ◌∷◌, map, length, take};
-ghost use Rattle.std.specs.Fn.{FnReturnsAt};
+ghost use Rattle.std.specs.Prelude.{◌≡◌, ◌≤◌, [], ◌∷◌, length};
 ghost use Rattle.bundle.specs.Checks.{viewed};
 ghost use Rattle.book.specs.Books.{standing};
 ghost use Rattle.sale.specs.States.{state_of, after, reply};
-ghost use Rattle.sale.specs.Opening.{overfull, open_sale};
+ghost use Rattle.sale.specs.Opening.{units_of_lots, prices_of_lots, overfull, open_sale};
 
 use crate::lots::Lot;
 use crate::refusals::OpeningRefusal;
 use crate::state::Sale;
+use arrayvec::ArrayVec;
 use book::{Answer, Book};
 use bundle::{Reserve, Supply};
 
@@ -19,21 +19,20 @@ const MAX_ACCOUNT: u64 = 1_000_000_000;
 
 const MAX_COMPANY: u64 = 1_000_000_000_000_000;
 
-// The same loop as `read_row` of `session`, and not one function of a crate below both: what other crates can call asks nothing.
-// A part of each of at most twelve lots, by the closure.
-fn column<T: Copy + Default, F: Fn(&Lot) -> T>(lots: &[Lot], part: F) -> [T; 12]
-    ghost of: { Lot → T }
-    requires few { length lots.now ≤ 12 }
-    requires callable { F.IsAlwaysCallable part }
-    requires gives { (l : Lot) (t : T) → FnReturnsAt F.Fn part l t → t ≡ of l }
-    ensures { take (length lots.now) result ≡ map of lots.now }
+// The units and the reserve of each of at most twelve lots.
+// Two vectors, as `Supply::new` and `Reserve::new` take them.
+fn columns(lots: &[Lot]) -> (ArrayVec<u8, 12>, ArrayVec<u32, 12>)
+    requires { length lots.now ≤ 12 }
+    ensures units { result.0.items ≡ units_of_lots lots.now }
+    ensures prices { result.1.items ≡ prices_of_lots lots.now }
 {
-    let mut column = [T::default(); 12];
-    // By place: behind a zip of both nothing would be known of what is written.
-    for (place, lot) in lots.iter().enumerate() {
-        column[place] = part(lot);
+    let mut units = ArrayVec::new();
+    let mut prices = ArrayVec::new();
+    for lot in lots {
+        units.push(lot.units);
+        prices.push(lot.reserve);
     }
-    column
+    (units, prices)
 }
 
 // The first farm whose account is above 1,000,000,000.
@@ -51,10 +50,9 @@ impl Sale {
         if lots.len() > MAX_LOTS {
             return Err(OpeningRefusal::LotCount(0));
         }
-        let units = column(lots, |lot| lot.units);
-        let prices = column(lots, |lot| lot.reserve);
-        let supply = Supply::new(&units[0..lots.len()])?;
-        let reserve = Reserve::new(&prices[0..lots.len()])?;
+        let (units, prices) = columns(lots);
+        let supply = Supply::new(&units)?;
+        let reserve = Reserve::new(&prices)?;
         let Some(book) = Book::open(supply, accounts) else {
             return Err(OpeningRefusal::FarmCount(0));
         };

@@ -1,4 +1,5 @@
 // Why a sale is not opened or closed, each with the place of the fault.
+// Each case holds a place, 0 where it names none, so that one reading of the place serves all.
 
 #[derive(Clone, Copy, PartialEq, Eq, Debug)]
 pub enum OpeningRefusal {

@@ -13,6 +13,7 @@ pub struct ClosedSale {
 }
 
 // A sale takes messages until it is closed.
+// Shown by a view: an enum can have no model.
 #[derive(Clone, Copy)]
 pub enum Life {
     Open(Sale),

@@ -1,8 +1,10 @@
 // Theorems on the life of a sale.
+// Where no lemma is named here, the search does not take it (tried), and an answer names it.
 ghost use Rattle.sale.specs.Opening.{OpensExactly};
 ghost use Rattle.sale.specs.Promises.{OrderFree, ToldOwn, ClosedByRule, MoneyKept, NeverBelowZero, EachPays, ChargesAreFair};
 
 // A sale is opened exactly if its lots can be sold, no reserve is above 1,000,000, there are 1 to 48 farms, and no account is above its limit.
+#[tactic(auto, using(crate::proofs::Openings::opens_exactly))]
 pub fn opens_exactly_stands()
     ensures { OpensExactly }
 {}
@@ -18,6 +20,7 @@ pub fn told_own_stands()
 {}
 
 // What a close leaves is the first of the best choices, and from each farm what the rest could have had without it less what the rest has.
+#[tactic(auto, using(crate::proofs::Closes::closed_by_rule))]
 pub fn closed_by_rule_stands()
     ensures { ClosedByRule }
 {}

@@ -1,77 +1,60 @@
 -- A file that is written is read as that opening and those messages. Assumes nothing.
-use Rattle.std.proofs.Common.{◌≡◌, ℕ, ◌+◌, ◌*◌, ◌/◌, ◌%◌, ◌^◌, ◌<◌, ◌≤◌, List, [], ◌∷◌, ◌++◌, length, get_or, sym, refl, ap, ◌∙◌, arith}
+use Rattle.std.proofs.Common.{◌≡◌, ℕ, ◌+◌, ◌*◌, ◌/◌, ◌%◌, ◌^◌, ◌<◌, ◌≤◌, List, [], ◌∷◌, ◌++◌, length, drop, map, sym, refl, ap, ◌∙◌, arith}
 use Rattle.std.specs.List.{flat_map, AllByRecursion}
-use Rattle.std.proofs.lemmas.List.{append-nil, append_assoc, length-append, get_or_at, drop_at}
+use Rattle.std.proofs.lemmas.List.{append-nil, append_assoc, length-append, get_or_at, take_at, drop_at, drop-drop}
 use Rattle.std.proofs.lemmas.Bool.{le-ltb, cond-false}
+use Rattle.std.specs.Simd.{first_chunks}
 use Rattle.sheets.specs.Reading.{u32_at}
 use Rattle.sheets.specs.Writing.{u32_bytes}
-use Rattle.sheets.proofs.Writings.{u32_at_bytes}
+use Rattle.sheets.proofs.Writings.{u32_at_bytes, length_items}
 use Rattle.sale.specs.Opening.{open_sale}
 use Rattle.sale.specs.declared.lots.Lot.{Lot}
 use Rattle.session.specs.Frames.{framed, frames, messages}
 use Rattle.session.specs.Files.{u64_bytes, lot_bytes, opening_bytes, FileBack}
-use Rattle.session.specs.Session.{u64_at, lots_at, accounts_at, lot_count, farm_count, opening_size, opening_in, messages_in}
+use Rattle.session.specs.Session.{u64_at, lot_in, account_in, lots_at, accounts_at, lot_count, farm_count, opening_size, opening_in, messages_in}
 use Rattle.session.proofs.Framing.{frames_back}
+use Rattle.session.proofs.Rows.{number_from, lots_parts, accounts_parts}
 
--- what is read at p, after pre and x, is read after both as one
-behind : {A : Type 0} (read : List ℕ → ℕ → A) (pre x rest : List ℕ) (p : ℕ) → length pre + length x ≡ p →
-    read (pre ++ (x ++ rest)) p ≡ read (pre ++ x ++ rest) (length (pre ++ x))
-behind read pre x rest p e =
-    let at : p ≡ length (pre ++ x) = omega (arith, length-append pre x) in
-    λ i. read (sym (append_assoc pre x rest) i) (at i)
-
--- a number of eight bytes is read back behind any bytes and before any bytes
-pub u64_back : (pre rest : List ℕ) (n : ℕ) → n < 2 ^ 64 → u64_at (pre ++ (u64_bytes n ++ rest)) (length pre) ≡ n
-u64_back pre rest n h =
+-- a number of eight bytes is read back where it stands
+u64_back : (bs rest : List ℕ) (p n : ℕ) → drop p bs ≡ u64_bytes n ++ rest → n < 2 ^ 64 → u64_at bs p ≡ n
+u64_back bs rest p n at h =
     let low : n % 4294967296 < 2 ^ 32 = omega arith in
     let high : n / 4294967296 < 2 ^ 32 = omega arith in
-    let bs = pre ++ (u64_bytes n ++ rest) in
-    let first : u32_at bs (length pre) ≡ n % 4294967296 =
-    u32_at_bytes pre (u32_bytes (n / 4294967296) ++ rest) (n % 4294967296) low in
-    let second : u32_at bs (length pre + 4) ≡ n / 4294967296 =
-    behind u32_at pre (u32_bytes (n % 4294967296)) (u32_bytes (n / 4294967296) ++ rest) (length pre + 4) refl
-    ∙ u32_at_bytes (pre ++ u32_bytes (n % 4294967296)) rest (n / 4294967296) high in
+    let first : u32_at bs p ≡ n % 4294967296 =
+    sym (number_from bs p 0 p (omega arith)) ∙ ap (λ l. u32_at l 0) at ∙ u32_at_bytes [] (u32_bytes (n / 4294967296) ++ rest) (n % 4294967296) low in
+    let second : u32_at bs (p + 4) ≡ n / 4294967296 =
+    sym (number_from bs p 4 (p + 4) (omega arith)) ∙ ap (λ l. u32_at l 4) at ∙ u32_at_bytes (u32_bytes (n % 4294967296)) rest (n / 4294967296) high in
     (λ i. first i + second i * 4294967296) ∙ omega arith
 
--- lots are read back
-pub lots_back : (pre rest : List ℕ) (ls : List Lot) → AllByRecursion (λ (l : Lot). l.reserve < 2 ^ 32) ls →
-    lots_at (pre ++ (flat_map lot_bytes ls ++ rest)) (length pre) (length ls) ≡ ls
-unfolding lots_at
-lots_back pre rest [] small = refl
-lots_back pre rest (l ∷ ls) small =
-    let after = flat_map lot_bytes ls ++ rest in
-    let bs = pre ++ (lot_bytes l ++ after) in
-    let here : get_or bs (length pre) 0 ≡ l.units = get_or_at pre l.units (u32_bytes l.reserve ++ after) 0 (length pre) refl in
-    let price : u32_at bs (length pre + 1) ≡ l.reserve =
-    behind u32_at pre (l.units ∷ []) (u32_bytes l.reserve ++ after) (length pre + 1) refl
-    ∙ u32_at_bytes (pre ++ l.units ∷ []) after l.reserve small.0 in
-    let others : lots_at bs (length pre + 5) (length ls) ≡ ls =
-    behind (λ x p. lots_at x p (length ls)) pre (lot_bytes l) after (length pre + 5) refl
-    ∙ lots_back (pre ++ lot_bytes l) rest ls small.1 in
-    λ i. record { units = here i; reserve = price i } ∷ others i
-
--- accounts are read back
-pub accounts_back : (pre rest : List ℕ) (held : List ℕ) → AllByRecursion (λ (a : ℕ). a < 2 ^ 32) held →
-    accounts_at (pre ++ (flat_map u32_bytes held ++ rest)) (length pre) (length held) ≡ held
-unfolding accounts_at
-accounts_back pre rest [] small = refl
-accounts_back pre rest (a ∷ held) small =
-    let after = flat_map u32_bytes held ++ rest in
-    let bs = pre ++ (u32_bytes a ++ after) in
-    let here : u32_at bs (length pre) ≡ a = u32_at_bytes pre after a small.0 in
-    let others : accounts_at bs (length pre + 4) (length held) ≡ held =
-    behind (λ x p. accounts_at x p (length held)) pre (u32_bytes a) after (length pre + 4) refl
-    ∙ accounts_back (pre ++ u32_bytes a) rest held small.1 in
-    λ i. here i ∷ others i
+-- items of one size that are written one after the other are read back, where each is
+module _ {A : Type 0} (bytes : A → List ℕ) (size : ℕ) (sized : (x : A) → length (bytes x) ≡ size) where
+  items_back : (read : List ℕ → A) (Fits : A → Type 0) → ((x : A) → Fits x → read (bytes x) ≡ x) → (xs : List A) (rest : List ℕ) → AllByRecursion Fits xs →
+      map read (first_chunks size (length xs) (flat_map bytes xs ++ rest)) ≡ xs
+  items_back read Fits back [] rest fit = refl
+  items_back read Fits back (x ∷ xs) rest fit =
+      let after = flat_map bytes xs ++ rest in
+      rw (append_assoc (bytes x) (flat_map bytes xs) rest, take_at (bytes x) after size (sized x), drop_at (bytes x) after size (sized x))
+      (λ i. back x fit.0 i ∷ items_back read Fits back xs rest fit.1 i)
 
 -- a lot takes five bytes, an account four
-pub length_lots : (ls : List Lot) → length (flat_map lot_bytes ls) ≡ length ls * 5
-length_lots [] = refl
-length_lots (l ∷ ls) = omega (arith, length_lots ls)
+length_lots : (ls : List Lot) → length (flat_map lot_bytes ls) ≡ length ls * 5
+length_lots ls = length_items lot_bytes 5 ls (λ k d h. refl)
 
-pub length_accounts : (held : List ℕ) → length (flat_map u32_bytes held) ≡ length held * 4
-length_accounts [] = refl
-length_accounts (a ∷ held) = omega (arith, length_accounts held)
+length_accounts : (held : List ℕ) → length (flat_map u32_bytes held) ≡ length held * 4
+length_accounts held = length_items u32_bytes 4 held (λ k d h. refl)
+
+-- lots are read back, and accounts
+lots_back : (bs rest : List ℕ) (p : ℕ) (ls : List Lot) → drop p bs ≡ flat_map lot_bytes ls ++ rest → AllByRecursion (λ (l : Lot). l.reserve < 2 ^ 32) ls →
+    lots_at bs p (length ls) ≡ ls
+lots_back bs rest p ls at small =
+    sym (lots_parts bs p (length ls)) ∙ ap (λ l. map lot_in (first_chunks 5 (length ls) l)) at
+    ∙ items_back lot_bytes 5 (λ l. refl) lot_in (λ l. l.reserve < 2 ^ 32) (λ l fits i. record { units = l.units; reserve = u32_at_bytes (l.units ∷ []) [] l.reserve fits i }) ls rest small
+
+accounts_back : (bs rest : List ℕ) (p : ℕ) (held : List ℕ) → drop p bs ≡ flat_map u32_bytes held ++ rest → AllByRecursion (λ (a : ℕ). a < 2 ^ 32) held →
+    accounts_at bs p (length held) ≡ held
+accounts_back bs rest p held at small =
+    sym (accounts_parts bs p (length held)) ∙ ap (λ l. map account_in (first_chunks 4 (length held) l)) at
+    ∙ items_back u32_bytes 4 (λ a. refl) account_in (λ a. a < 2 ^ 32) (λ a fits. u32_at_bytes [] [] a fits) held rest small
 
 -- the opening and what follows it, part by part
 opening_parts : (lots : List Lot) (accounts : List ℕ) (company : ℕ) (rest : List ℕ) →
@@ -82,7 +65,7 @@ opening_parts lots accounts company rest =
     ∙ ap (λ l. flat_map lot_bytes lots ++ (length accounts ∷ l)) (append_assoc (flat_map u32_bytes accounts) (u64_bytes company) rest))
 
 -- how long the opening is
-pub length_opening : (lots : List Lot) (accounts : List ℕ) (company : ℕ) →
+length_opening : (lots : List Lot) (accounts : List ℕ) (company : ℕ) →
     length (opening_bytes lots accounts company) ≡ 2 + length lots * 5 + length accounts * 4 + 8
 length_opening lots accounts company =
     let farms = flat_map u32_bytes accounts ++ u64_bytes company in
@@ -94,23 +77,22 @@ length_opening lots accounts company =
       length_accounts accounts,
     )
 
--- where the counts and the parts are told, the sale is that of the parts
-opened-by : (bs : List ℕ) (n m : ℕ) (lots : List Lot) (accounts : List ℕ) (company : ℕ) → lot_count bs ≡ n → farm_count bs ≡ m →
-    2 + n * 5 + m * 4 + 8 ≤ length bs →
-    lots_at bs 1 n ≡ lots → accounts_at bs (2 + n * 5) m ≡ accounts → u64_at bs (2 + n * 5 + m * 4) ≡ company →
+-- where the farms and the parts are told, the sale is that of the parts
+opened-by : (bs : List ℕ) (m : ℕ) (lots : List Lot) (accounts : List ℕ) (company : ℕ) → farm_count bs ≡ m → 2 + lot_count bs * 5 + m * 4 + 8 ≤ length bs →
+    lots_at bs 1 (lot_count bs) ≡ lots → accounts_at bs (2 + lot_count bs * 5) m ≡ accounts → u64_at bs (2 + lot_count bs * 5 + m * 4) ≡ company →
     opening_in bs ≡ open_sale lots accounts company
-opened-by bs n m lots accounts company e f long sold held purse =
-    let sold' : lots_at bs 1 (lot_count bs) ≡ lots = ap (lots_at bs 1) e ∙ sold in
-    let held' : accounts_at bs (2 + lot_count bs * 5) (farm_count bs) ≡ accounts = (λ i. accounts_at bs (2 + e i * 5) (f i)) ∙ held in
-    let purse' : u64_at bs (2 + lot_count bs * 5 + farm_count bs * 4) ≡ company = (λ i. u64_at bs (2 + e i * 5 + f i * 4)) ∙ purse in
-    cond-false _ _ _ (le-ltb (length bs) (opening_size bs) (omega arith)) ∙ (λ i. open_sale (sold' i) (held' i) (purse' i))
+opened-by bs m lots accounts company f long sold held purse =
+    let from = 2 + lot_count bs * 5 in
+    let held' : accounts_at bs from (farm_count bs) ≡ accounts = ap (accounts_at bs from) f ∙ held in
+    let purse' : u64_at bs (from + farm_count bs * 4) ≡ company = ap (λ j. u64_at bs (from + j * 4)) f ∙ purse in
+    cond-false _ _ _ (le-ltb (length bs) (opening_size bs) (omega arith)) ∙ (λ i. open_sale (sold i) (held' i) (purse' i))
 
 -- the byte after the lots counts the farms
 farms_told : (n m : ℕ) (xs rest : List ℕ) → length xs ≡ n * 5 → farm_count (n ∷ (xs ++ (m ∷ rest))) ≡ m
 farms_told n m xs rest e = get_or_at (n ∷ xs) m rest 0 (1 + n * 5) (omega arith)
 
 -- the size of an opening is read back, whatever follows it
-pub opening_sized : (lots : List Lot) (accounts : List ℕ) (company : ℕ) (rest : List ℕ) →
+opening_sized : (lots : List Lot) (accounts : List ℕ) (company : ℕ) (rest : List ℕ) →
     opening_size (opening_bytes lots accounts company ++ rest) ≡ length (opening_bytes lots accounts company)
 opening_sized lots accounts company rest =
     let n = length lots in
@@ -129,8 +111,7 @@ messages_behind lots accounts company rest =
 -- an opening is read back, whatever follows it
 pub opening_back : (lots : List Lot) (accounts : List ℕ) (company : ℕ) (rest : List ℕ) →
     AllByRecursion (λ (l : Lot). l.reserve < 2 ^ 32) lots → AllByRecursion (λ (a : ℕ). a < 2 ^ 32) accounts → company < 2 ^ 64 →
-    (opening_in (opening_bytes lots accounts company ++ rest) ≡ open_sale lots accounts company)
-    × (opening_size (opening_bytes lots accounts company ++ rest) ≡ length (opening_bytes lots accounts company))
+    opening_in (opening_bytes lots accounts company ++ rest) ≡ open_sale lots accounts company
 opening_back lots accounts company rest priced held small =
     let n = length lots in
     let m = length accounts in
@@ -147,23 +128,19 @@ opening_back lots accounts company rest priced held small =
     let long : 2 + n * 5 + m * 4 + 8 ≤ length bs =
     omega (arith, ap length parts, length-append (opening_bytes lots accounts company) rest, size) in
     let far : length pre ≡ 2 + n * 5 = omega (arith, length-append (n ∷ ls) (m ∷ []), five) in
-    let accounted : accounts_at bs (2 + n * 5) m ≡ accounts =
-    behind (λ x p. accounts_at x p m) (n ∷ ls) (m ∷ []) (hs ++ tail) (2 + n * 5) (omega arith) ∙ accounts_back pre tail accounts held in
-    let purse : u64_at bs (2 + n * 5 + m * 4) ≡ company =
-    ap (λ x. u64_at x (2 + n * 5 + m * 4)) (sym (append_assoc (n ∷ ls) (m ∷ []) (hs ++ tail)))
-    ∙ behind u64_at pre hs tail (2 + n * 5 + m * 4) (omega arith) ∙ u64_back (pre ++ hs) rest company small in (
-      ap opening_in parts
-          ∙ opened-by bs n m lots accounts company refl farms long (lots_back (n ∷ []) (m ∷ (hs ++ tail)) lots priced) accounted purse,
-      opening_sized lots accounts company rest,
-    )
+    let owned : drop (2 + n * 5) bs ≡ hs ++ tail =
+    ap (drop (2 + n * 5)) (sym (append_assoc (n ∷ ls) (m ∷ []) (hs ++ tail))) ∙ drop_at pre (hs ++ tail) (2 + n * 5) far in
+    let purse : drop (2 + n * 5 + m * 4) bs ≡ tail = sym (drop-drop (m * 4) (2 + n * 5) bs) ∙ ap (drop (m * 4)) owned ∙ drop_at hs tail (m * 4) four in
+    ap opening_in parts
+    ∙ opened-by bs m lots accounts company farms long (lots_back bs (m ∷ (hs ++ tail)) 1 lots refl priced) (accounts_back bs tail (2 + n * 5) accounts owned held) (u64_back bs rest (2 + n * 5 + m * 4) company purse small)
 
 -- messages one after the other, and nothing after them
-pub messages_back : (ms : List (List ℕ)) → messages (flat_map framed ms) ≡ ms
+messages_back : (ms : List (List ℕ)) → messages (flat_map framed ms) ≡ ms
 unfolding frames
 messages_back ms = ap messages (sym (append-nil (flat_map framed ms))) ∙ frames_back ms [] ∙ append-nil ms
 
 pub file_back : FileBack
 file_back lots accounts company ms priced held small = (
-  (opening_back lots accounts company (flat_map framed ms) priced held small).0,
+  opening_back lots accounts company (flat_map framed ms) priced held small,
   messages_behind lots accounts company (flat_map framed ms) ∙ messages_back ms,
 )

@@ -44,7 +44,7 @@ module _ (lots : List Lot) (accounts : List ℕ) (company : ℕ) (priced : AllBy
       let f = file_with lots accounts company before m rest in
       let ended = then_back (run f) _ o closes.runs in
       let opening = then_back (opening_in f) _ ended.0 ended.1 in
-      let read = sym (opening_back lots accounts company (flat_map framed (before ++ m ∷ []) ++ rest) priced held small).0 ∙ opening.1 in
+      let read = sym (opening_back lots accounts company (flat_map framed (before ++ m ∷ []) ++ rest) priced held small) ∙ opening.1 in
       let same : opening.0 ≡ opened lots accounts company = ((opens_exactly lots accounts company).0 opening.0 read).1 in
       let ran : record { state = after opening.0 (messages_in f); told = replies opening.0 (messages_in f) } ≡ ended.0 = let e = opening.2 in cc in
       let is : close_outcome ended.0 rows ≡ o = let e = ended.2 in cc in

@@ -20,6 +20,10 @@ u64_at bs p = u32_at bs p + u32_at bs (p + 4) * 4294967296
 abbrev pub lot_in : List ℕ → Lot
 lot_in bs = record { units = slice_index bs 0; reserve = u32_at bs 1 }
 
+-- an account in four bytes
+abbrev pub account_in : List ℕ → ℕ
+account_in bs = u32_at bs 0
+
 -- n lots from p on: a byte of units and four bytes of reserve each
 unfoldable pub lots_at : List ℕ → ℕ → ℕ → List Lot
 lots_at bs p zero = []

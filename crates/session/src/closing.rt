@@ -14,6 +14,8 @@ use book::Answer;
 // Opens the sale of a file, takes its messages and closes it; what each message is answered stands at the front of the row of answers, and the
 // table, the award and the charges stand in the other rows. Refused, with all rows as they were, where the row of answers is too short, or the opening
 // is refused; where only the close is refused, the table, the award and the charges are as they were.
+// The rows are slices of u64, and no struct of them: a close has to be lent them so.
+// Answered in proofs/: with a lemma named here the search does not prove it (tried).
 pub fn run_to_close(
     file: &[u8],
     answers: &mut [Answer],

@@ -1,4 +1,5 @@
 // What the run over a file to the close comes to.
+// Shown by a view: its fields are public, and a model would hide them.
 use sale::{ClosingRefusal, Life};
 
 #[derive(Clone, Copy)]

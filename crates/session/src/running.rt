@@ -23,7 +23,7 @@ fn post_all(mut sale: Sale, file: &[u8], row: &mut [Answer]) -> Sale
     ensures state { state_of result ≡ after (state_of sale) (messages_in file.now) }
     ensures told { row.new ≡ replies (state_of sale) (messages_in file.now) ++ drop (length (messages_in file.now)) row.old }
 {
-    // By place: behind a zip of both nothing would be known of what is written.
+    // By place: behind a zip over `iter_mut` nothing is known of what was written (tried).
     for (k, message) in Messages::of(file).enumerate() {
         let (next, answer) = sale.post(message);
         sale = next;
@@ -34,6 +34,7 @@ fn post_all(mut sale: Sale, file: &[u8], row: &mut [Answer]) -> Sale
 
 // Opens the sale of a file and takes its messages; what each is answered stands at the front of the row.
 // Refused, with the row as it was, where the row is too short for the answers, or the opening is refused.
+// The row of answers is the caller's, as a library takes no heap.
 pub fn run(file: &[u8], row: &mut [Answer]) -> Result<Sale, RunRefusal>
     ensures value { viewed state_of result ≡ run_within (length row.old) file.now }
     ensures told { row.new ≡ told_within row.old file.now }

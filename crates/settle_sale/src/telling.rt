@@ -28,6 +28,7 @@ fn tell_report(heap: Global, report: &Report<'_>) -> Result<Told, AllocError>
 }
 
 // Runs a file with these rows, and tells of it.
+// The rows are slices of u64, and no struct of them: a close has to be lent them so.
 fn tell_run(
     heap: Global,
     file: &[u8],
@@ -44,7 +45,7 @@ fn tell_run(
             let report = Report::of_session(&session, answers, award, charges);
             tell_report(heap, &report)
         }
-        Err(RunRefusal::Opening(refusal)) => tell_report(heap, &Report::of_refusal(refusal)),
+        Err(RunRefusal::Opening(refusal)) => tell_report(heap, &Report::from(refusal)),
         // There is a place for the answer to each message.
         Err(RunRefusal::Room(_)) => unreachable!(),
     }

@@ -35,7 +35,7 @@ length_rows ls =
     let each : (l : Line) → length (row_bytes l) ≡ row_size l = λ l. omega arith in
     length-flat_map row_bytes ls ∙ (λ t. sum_by (λ l. each l t) ls)
 
-pub few_bytes : (ls : List Line) → sum_by row_size ls ≤ length ls * 16
+few_bytes : (ls : List Line) → sum_by row_size ls ≤ length ls * 16
 few_bytes ls = sum_by-le row_size 16 ls (λ k d h. omega (arith, few_units (get_or ls k d).units))
 
 -- a sheet has as many bids as it counts
@@ -50,6 +50,9 @@ module _ (s : Sheet) (ls : List Line) (e : map bid_of ls ≡ bids_of s) where
 
   pub few_lines : length ls ≤ 32
   few_lines = omega (arith, count_lines, bid_count s, s.few)
+
+  pub few_sizes : sum_by row_size ls ≤ 512
+  few_sizes = omega (arith, few_bytes ls, few_lines)
 
   pub rows_bids : flat_map row_bytes ls ≡ flat_map line_bytes (bids_of s)
   rows_bids = sym (flat_map-map line_bytes bid_of ls) ∙ ap (flat_map line_bytes) e

@@ -1,8 +1,9 @@
 -- What is read is taken, and its writing is what was read. Assumes nothing.
-use Rattle.std.proofs.Common.{◌≡◌, ℕ, zero, suc, ◌+◌, ◌*◌, ◌/◌, ◌%◌, ◌^◌, ◌<◌, ◌≤◌, List, [], ◌∷◌, ◌++◌, length, get_or, drop, Ok, sym, refl, ap, ◌∙◌, subst, suc-mul, zero-mul, arith}
+use Rattle.std.proofs.Common.{◌≡◌, ℕ, zero, suc, ◌+◌, ◌*◌, ◌^◌, ◌<◌, ◌≤◌, List, [], ◌∷◌, ◌++◌, length, get_or, drop, Ok, sym, refl, ap, ◌∙◌, subst, suc-mul, zero-mul, arith}
 use Rattle.std.specs.List.{flat_map, AllByRecursion}
 use Rattle.std.proofs.lemmas.List.{drop_more}
 use Rattle.std.proofs.lemmas.Bool.Decides.{nat_tests}
+use Rattle.std.proofs.lemmas.Nat.{le_bytes_4}
 use Rattle.std.proofs.lemmas.Grind.{common_steps}
 use Rattle.bundle.specs.Bids.{Bid, Bids}
 use Rattle.bundle.specs.Units.{Within}
@@ -149,20 +150,11 @@ taken_if_read supply accounts numbers bs s e =
 -- What was read is the writing of what is taken, where the bytes are bytes.
 
 -- bytes are below 256, and so is the 0 past the last
+-- By recursion: std's lemma on the elements asks for a place before the end, so that there would be two cases here.
 pub under : (bs : List ℕ) → AllByRecursion (λ b. b < 256) bs → (p : ℕ) → get_or bs p 0 < 256
 under [] h p = omega arith
 under (b ∷ bs) h zero = h.0
 under (b ∷ bs) h (suc p) = under bs h.1 p
-
--- the four bytes of the number that four bytes make
-pub u32_forth : (a b c d : ℕ) → a < 256 → b < 256 → c < 256 → d < 256 → a ∷ b ∷ c ∷ d ∷ [] ≡ u32_bytes (a + b * 256 + c * 65536 + d * 16777216)
-u32_forth a b c d h i j k =
-    let n = a + b * 256 + c * 65536 + d * 16777216 in
-    let w : a ≡ n % 256 = omega arith in
-    let x : b ≡ n / 256 % 256 = omega arith in
-    let y : c ≡ n / 65536 % 256 = omega arith in
-    let z : d ≡ n / 16777216 % 256 = omega arith in
-    λ t. w t ∷ x t ∷ y t ∷ z t ∷ []
 
 module _ (bs : List ℕ) (bytes : (p : ℕ) → get_or bs p 0 < 256) where
   pub u32_below : (p : ℕ) → u32_at bs p < 2 ^ 32
@@ -171,8 +163,9 @@ module _ (bs : List ℕ) (bytes : (p : ℕ) → get_or bs p 0 < 256) where
   -- four bytes are the writing of their number
   pub u32_written : (p : ℕ) → p + 4 ≤ length bs → drop p bs ≡ u32_bytes (u32_at bs p) ++ drop (p + 4) bs
   u32_written p h =
-      let split : drop p bs ≡ (get_or bs p 0 ∷ get_or bs (p + 1) 0 ∷ get_or bs (p + 2) 0 ∷ get_or bs (p + 3) 0 ∷ []) ++ drop (p + 4) bs = grind (arith, common_steps) in
-      split ∙ ap (λ x. x ++ drop (p + 4) bs) (u32_forth (get_or bs p 0) (get_or bs (p + 1) 0) (get_or bs (p + 2) 0) (get_or bs (p + 3) 0) (bytes p) (bytes (p + 1)) (bytes (p + 2)) (bytes (p + 3)))
+      let front = get_or bs p 0 ∷ get_or bs (p + 1) 0 ∷ get_or bs (p + 2) 0 ∷ get_or bs (p + 3) 0 ∷ [] in
+      let split : drop p bs ≡ front ++ drop (p + 4) bs = grind (arith, common_steps) in
+      split ∙ ap (λ x. x ++ drop (p + 4) bs) (sym (le_bytes_4 front (u32_at bs p) refl (under front (bytes p, (bytes (p + 1), (bytes (p + 2), (bytes (p + 3), tt))))) refl))
 
   module _ (supply : List ℕ) (account : ℕ) where
     -- a line is the writing of what is read there

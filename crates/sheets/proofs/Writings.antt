@@ -1,7 +1,9 @@
 -- A submission that is taken is read back from its writing. Assumes nothing.
-use Rattle.std.proofs.Common.{◌≡◌, ℕ, suc, ◌+◌, ◌*◌, ◌/◌, ◌%◌, ◌^◌, ◌<◌, ◌≤◌, List, [], ◌∷◌, ◌++◌, length, get_or, Ok, sym, refl, ◌∙◌, append_assoc, suc-mul, zero-mul, arith}
-use Rattle.std.specs.List.{flat_map, AllByRecursion}
+use Rattle.std.proofs.Common.{◌≡◌, ℕ, suc, ◌+◌, ◌*◌, ◌^◌, ◌<◌, ◌≤◌, List, [], ◌∷◌, ◌++◌, length, get_or, Ok, sym, refl, ◌∙◌, append_assoc, suc-mul, arith}
+use Rattle.std.specs.List.{flat_map, All, AllByRecursion}
 use Rattle.std.proofs.lemmas.List.{get_or_at, length-append}
+use Rattle.std.proofs.lemmas.List.Elements.{All-from_recursion}
+use Rattle.std.proofs.lemmas.Nat.{from_le_bytes-to_le_bytes_4}
 use Rattle.std.proofs.lemmas.Grind.{common_steps}
 use Rattle.std.proofs.lemmas.Bool.Decides.{nat_tests}
 use Rattle.bundle.specs.Bids.{Bid, Bids}
@@ -11,15 +13,11 @@ use Rattle.sheets.specs.Writing.{u32_bytes, line_bytes, message_bytes}
 use Rattle.sheets.specs.Allowed.{Covered, Taken, Plain}
 use Rattle.bundle.proofs.Checks.{then_ok}
 
--- four bytes of a number make it again
-pub u32_back : (n : ℕ) → n < 2 ^ 32 → n % 256 + n / 256 % 256 * 256 + n / 65536 % 256 * 65536 + n / 16777216 % 256 * 16777216 ≡ n
-u32_back n h = omega arith
-
 -- a number is read back behind any bytes and before any bytes
 pub u32_at_bytes : (pre rest : List ℕ) (n : ℕ) → n < 2 ^ 32 → u32_at (pre ++ (u32_bytes n ++ rest)) (length pre) ≡ n
 u32_at_bytes pre rest n h =
     let bs = pre ++ (u32_bytes n ++ rest) in
-    grind (arith, common_steps, u32_back n h)
+    grind (arith, common_steps, from_le_bytes-to_le_bytes_4 n h)
 
 -- units within the supply are read back
 pub units_back : (ss pre us rest : List ℕ) → length us ≡ length ss → Within us ss → units_in ss (pre ++ (us ++ rest)) (length pre) ≡ Ok us
@@ -69,11 +67,11 @@ lines_back supply account pre (l ∷ ls) ok small =
     (λ i. lines_in supply account (sym (append_assoc pre (line_bytes l) rest) i) (at i) (length ls)) ∙ lines_back supply account more ls ok.1 small.1 in
     grind (arith, here, tail)
 
--- and so many lines take so many times that
-pub length_lines : (supply : List ℕ) (account : ℕ) (ls : Bids) → AllByRecursion (Covered supply account) ls → length (flat_map line_bytes ls) ≡ length ls * (4 + length supply)
-length_lines supply account [] ok = omega (arith, zero-mul (4 + length supply))
-length_lines supply account (l ∷ ls) ok =
-    omega (arith, length-append (line_bytes l) (flat_map line_bytes ls), length-line supply account l ok.0, length_lines supply account ls ok.1, suc-mul (length ls) (4 + length supply))
+-- items of one size, written one after the other
+pub length_items : {A : Type 0} (bytes : A → List ℕ) (size : ℕ) (xs : List A) → All (λ x. length (bytes x) ≡ size) xs → length (flat_map bytes xs) ≡ length xs * size
+length_items bytes size [] sized = omega arith
+length_items bytes size (x ∷ xs) sized =
+    omega (arith, length-append (bytes x) (flat_map bytes xs), sized 0 x (omega arith), length_items bytes size xs (λ k d h. sized (suc k) d (omega arith)), suc-mul (length xs) size)
 
 -- what is taken is read back from its writing
 pub read_back : (supply accounts numbers : List ℕ) (s : Submission) → Taken supply accounts numbers s → Plain s → read_message supply accounts numbers (message_bytes s) ≡ Ok s
@@ -84,9 +82,9 @@ read_back supply accounts numbers s taken plain =
     let bs = message_bytes s in
     let n = length s.bids in
     let covered = taken.allowed.covered in
-    let long : length bs ≡ 6 + n * (4 + m) = omega (arith, length_lines supply account s.bids covered) in
+    let long : length bs ≡ 6 + n * (4 + m) = omega (arith, length_items line_bytes (4 + m) s.bids (λ k d h. length-line supply account (get_or s.bids k d) (All-from_recursion _ s.bids covered k d h))) in
     let sent : sender_in (length accounts) bs ≡ Ok s.farm = grind (arith, nat_tests) in
-    let is : u32_at bs 1 ≡ s.number = u32_back s.number plain.number in
+    let is : u32_at bs 1 ≡ s.number = from_le_bytes-to_le_bytes_4 s.number plain.number in
     let numbered : number_in last bs ≡ Ok s.number = grind (arith, nat_tests) in
     let counted : count_in m bs ≡ Ok n = grind (arith, nat_tests) in
     let lined : lines_in supply account bs 6 n ≡ Ok s.bids =

@@ -4,6 +4,7 @@ ghost use Rattle.std.specs.Prelude.{◌≡◌, ◌^◌, ◌<◌, ◌≤◌, leng
 use bundle::Bundle;
 
 // A line of a sheet: the units that a farm wants, and what it states that they are worth together.
+// Shown by a view, as a message is: its fields are public, and a model would hide them.
 #[derive(Clone, Copy)]
 pub struct Line {
     pub worth: u32,
@@ -12,7 +13,8 @@ pub struct Line {
 }
 
 // A sheet: 0 to 32 lines, alternatives of which at most one is awarded; the first `count` of the array are its lines.
-// An array with a count, since the libraries take no memory from the heap and a sheet is copied.
+// An array with a count, since a sheet is copied, and no `ArrayVec` is `Copy`.
+// Shown by a view, as a book is: a model of what is copied has to give its fields back, and the lines past the count are nobody's.
 #[derive(Clone, Copy)]
 pub struct Sheet {
     pub(crate) lines: [Line; 32],

@@ -1,5 +1,6 @@
 // Reads a message. The checks stand in the order in which a message is checked; each hands on its value or refuses.
-ghost use Rattle.std.specs.Prelude.{◌≡◌, ◌+◌, ◌*◌, ◌≤◌, ◌==◌, length, if◌then◌else◌, Some, None, nat_lt, slice_index};
+ghost use Rattle.std.specs.Prelude.{◌≡◌, ℕ, position, ◌+◌, ◌*◌, ◌/◌, ◌≤◌, ◌==◌, length, if◌then◌else◌, Some, None, nat_lt, slice_index};
+ghost use Rattle.std.specs.List.{zip};
 ghost use Rattle.bundle.specs.Bundles.{units_of};
 ghost use Rattle.bundle.specs.Checks.{viewed};
 ghost use Rattle.bundle.specs.Stocks.{supply_of};
@@ -12,24 +13,34 @@ use bundle::{Bundle, Supply};
 
 const MAX_LINES: u8 = 32;
 
+// The first place where a count is above the most that there is.
+fn first_above(counts: &[u8], most: &[u8]) -> Option<usize>
+    ensures { result ≡ position (λ (p : ℕ × ℕ). nat_lt p.1 p.0) (zip counts.now most.now) }
+{
+    counts
+        .iter()
+        .zip(most)
+        .position(|(count, most)| *count > *most)
+}
+
 // The units of a line, from a byte for each lot; the first stands at `at` in the message.
+// The length is checked once, for the whole message; `at` is told in a refusal, and reads nothing.
+#[tactic(auto, using(crate::proofs::Over::few_units))]
 fn read_units(counts: &[u8], at: usize, supply: &Supply) -> Result<Bundle, MessageRefusal>
     requires every { length counts.now ≡ length (supply_of supply.now) }
     requires fits { at + length counts.now ≤ usize.MAX }
     ensures { viewed units_of result ≡ units_in (supply_of supply.now) (placed at counts.now) at }
 {
-    let mut units = Bundle::empty(counts.len());
-    for (lot, count) in counts.iter().enumerate() {
-        let most = supply.units().count(lot);
-        let Some(count) = (*count <= most).then_some(*count) else {
-            return Err(MessageRefusal::UnitsAboveSupply(at + lot));
-        };
-        units = units.with_count(lot, count);
-    }
-    Ok(units)
+    // All where none is above; by `let .. else`, as each check of a message.
+    let within = first_above(counts, supply.units().units()).unwrap_or(counts.len());
+    let Some(counts) = (within == counts.len()).then_some(counts) else {
+        return Err(MessageRefusal::UnitsAboveSupply(at + within));
+    };
+    Ok(Bundle::new(counts).unwrap())
 }
 
 // The line of a row that stands at `at` in the message: four bytes of worth, then the units.
+// The length is checked once, for the whole message; `at` is told in a refusal, and reads nothing.
 fn read_line(row: &[u8], at: usize, supply: &Supply, account: u64) -> Result<Line, MessageRefusal>
     requires whole { length row.now ≡ 4 + length (supply_of supply.now) }
     requires fits { at + length row.now ≤ usize.MAX }
@@ -44,25 +55,23 @@ fn read_line(row: &[u8], at: usize, supply: &Supply, account: u64) -> Result<Lin
     Ok(Line { worth, units })
 }
 
-// The sheet of `count` lines of `size` bytes that stand from place 6 on.
+// The sheet whose lines are rows of `size` bytes; the first stands at 6 in the message.
+// The length is checked once, for the whole message.
 fn read_sheet(
-    bytes: &[u8],
-    count: usize,
+    rows: &[u8],
     size: usize,
     supply: &Supply,
     account: u64,
 ) -> Result<Sheet, MessageRefusal>
-    requires few { count ≤ 32 }
     requires each { size ≡ 4 + length (supply_of supply.now) }
-    requires long { length bytes.now ≡ 6 + count * size }
-    ensures { viewed bids_of result ≡ lines_in (supply_of supply.now) account bytes.now 6 count }
+    requires few { length rows.now / size ≤ 32 }
+    ensures { viewed bids_of result ≡ lines_in (supply_of supply.now) account (placed 6 rows.now) 6 (length rows.now / size) }
 {
-    let mut lines = Sheet::new().lines;
-    // By place: behind a zip of both nothing would be known of what is written.
-    for (k, row) in bytes[6..].chunks_exact(size).enumerate() {
-        lines[k] = read_line(row, 6 + k * size, supply, account)?;
+    let mut sheet = Sheet::new();
+    for (k, row) in rows.chunks_exact(size).enumerate() {
+        sheet.push(read_line(row, 6 + k * size, supply, account)?);
     }
-    Ok(Sheet { lines, count })
+    Ok(sheet)
 }
 
 // The message in `bytes`, or the first refusal; the accounts and the numbers of the last messages are those of the farms, in their order.
@@ -74,7 +83,7 @@ pub fn read(
 ) -> Result<Message, MessageRefusal>
     ensures { viewed submission_of result ≡ read_message (supply_of supply.now) accounts.now numbers.now bytes.now }
 {
-    let &[farm, n0, n1, n2, n3, count, ..] = bytes else {
+    let &[farm, n0, n1, n2, n3, count, ref rows @ ..] = bytes else {
         return Err(MessageRefusal::Short(bytes.len()));
     };
     let Some(account) = accounts.get(usize::from(farm)).copied() else {
@@ -92,7 +101,7 @@ pub fn read(
     let Some(size) = (bytes.len() == 6 + count * size).then_some(size) else {
         return Err(MessageRefusal::WrongLength(bytes.len()));
     };
-    let sheet = read_sheet(bytes, count, size, supply, account)?;
+    let sheet = read_sheet(rows, size, supply, account)?;
     Ok(Message {
         farm,
         number,

@@ -31,16 +31,16 @@ fn put_lines(rows: &mut [u8], lines: &[Line])
     requires { length rows.old ≡ length (flat_map (λ l. line_bytes (bid_of l)) lines.now) }
     ensures { rows.new ≡ flat_map (λ l. line_bytes (bid_of l)) lines.now }
 {
-    // By a place, since the rows differ in size, and what a loop writes through a part that it lends on is not known behind it.
-    let mut at = 0;
-    for line in lines {
-        let end = at + 4 + line.units.lots();
-        put_line(&mut rows[at..end], line);
-        at = end;
-    }
+    let Some((line, others)) = lines.split_first() else {
+        return;
+    };
+    let (row, rest) = rows.split_at_mut(4 + line.units.lots());
+    put_line(row, line);
+    put_lines(rest, others);
 }
 
 // Writes a message at the front of `out`, and says how many bytes it takes; where `out` is shorter, nothing is written.
+// By places, as the format has them: the six bytes in front of the lines have a fixed place.
 pub fn write(message: &Message, out: &mut [u8]) -> Option<usize>
     ensures value { result ≡ written_size (message_bytes (submission_of message.now)) out.old }
     ensures after { out.new ≡ written (message_bytes (submission_of message.now)) out.old }

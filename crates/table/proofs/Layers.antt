@@ -1,20 +1,19 @@
 -- A row written into the table in front of those that are filled. Assumes nothing.
 use Rattle.std.proofs.Common.{◌≡◌, ℕ, suc, ◌+◌, ◌-◌, ◌*◌, ◌^◌, ◌<◌, ◌≤◌, List, [], ◌∷◌, ◌++◌, map, length, get_or, take, drop, set, sym, refl, ap, ◌∙◌, add-mul, add-one, arith}
 use Rattle.std.specs.List.{range_with_len}
-use Rattle.std.proofs.lemmas.Nat.{mul-le}
-use Rattle.std.proofs.lemmas.List.{drop_all, drop_at, drop-drop, drop_more, drop-set, get_or-drop, get_or-map, length-append, length-drop, length-map, set_split}
+use Rattle.std.proofs.lemmas.List.{drop_all, drop_at, drop-drop, drop_more, drop-set, get_or-drop, get_or-map, length-append, length-drop, length-map, length-take-le, set_split}
 use Rattle.bundle.specs.Bids.{Bids}
-use Rattle.bundle.specs.Units.{bundles, bundle_at, place, Within}
-use Rattle.bundle.proofs.Bundles.{length-bundle_at, bundle_at-within, place_below, within_refl}
+use Rattle.bundle.specs.Units.{bundles, bundle_at, place}
+use Rattle.bundle.proofs.Bundles.{bundles_pos, length-bundle_at, bundle_at-within, place_below, within_refl}
 use Rattle.sheets.specs.Sheets.{bids_of}
 use Rattle.sheets.specs.declared.parts.Sheet.{Sheet}
 use Rattle.vcg.specs.Auction.{no_bid}
 use Rattle.vcg.specs.Optimum.{best_among, optimum}
-use Rattle.vcg.proofs.Alike.{optimum-append, optimum_cap, optimum_like}
+use Rattle.vcg.proofs.Alike.{EachWithin, optimum-append, optimum_like}
 use Rattle.table.specs.Offers.{Below, SmallRow}
 use Rattle.table.specs.Tables.{row, rows, entry, made, onto}
-use Rattle.table.proofs.Sheets.{stated_cap}
-use Rattle.table.proofs.TableRows.{length-row, length-rows, get_or-row, entry_row, entry-rows, get_or-rows, row_of, rows_like, rows_more, rows-onto}
+use Rattle.table.proofs.Sheets.{few_cap, stated_cap}
+use Rattle.table.proofs.TableRows.{length-row, get_or-row, entry_row, entry-rows, get_or-rows, row_of, rows_like, rows_more, rows-onto, table-long}
 
 -- the rows from row j on are those of the bidders from the j-th on, by what the seller keeps, and then the rest
 abbrev pub FilledFrom : List ℕ → (List ℕ → ℕ) → List Bids → List ℕ → ℕ → List ℕ → Type 0
@@ -68,16 +67,17 @@ pub filled-rows : (s : List ℕ) (keep : List ℕ → ℕ) (bs : List Bids) (res
     → u ≡ onto (rows s (entry s (drop (length bs * bundles s) t)) bs) t → u ≡ rows s keep bs ++ rest
 filled-rows s keep bs rest t u last is =
     let own = entry s (drop (length bs * bundles s) t) in
-    let like : (y : List ℕ) → length y ≡ length s → Within y s → own y ≡ keep y = λ y l h. ap (λ r. entry s r y) last ∙ entry_row s keep rest y l h in
-    is ∙ sym (rows-onto s own bs t) ∙ (λ i. rows_like s own keep like bs i ++ after-row s keep t rest (length bs) last i)
+    is ∙ sym (rows-onto s own bs t) ∙ (λ i. rows_like s own keep (entry_row s keep rest _ last) bs i ++ after-row s keep t rest (length bs) last i)
 
--- the row of a bidder without alternatives is the row after it
-pub empty_row : (s below rest t : List ℕ) (none : Bids) → none ≡ [] → t ≡ row s (made s below none) ++ rest → t ≡ row s (entry s below) ++ rest
+-- the row of the bidder k, where it has no alternatives, is the row after it
+pub empty_row : (s : List ℕ) (bs : List Bids) (k : ℕ) (below rest t : List ℕ) (none : Bids) → k < length bs → none ≡ []
+    → drop (k * bundles s) t ≡ row s (made s below none) ++ rest → drop (length (take k bs) * bundles s) t ≡ row s (entry s below) ++ rest
 unfolding best_among
-empty_row s below rest t none is wrote = wrote ∙ ap (λ (b : Bids). row s (made s below b) ++ rest) is
+empty_row s bs k below rest t none h is wrote =
+    ap (λ n. drop (n * bundles s) t) (length-take-le k bs (omega arith)) ∙ wrote ∙ ap (λ (b : Bids). row s (made s below b) ++ rest) is
 
 -- no entry is above what the seller keeps at most and 2^32 for each of 48 bidders
-pub row_cap : (s : List ℕ) (keep : List ℕ → ℕ) (n : ℕ) → ((y : List ℕ) → length y ≡ length s → Within y s → keep y ≤ n) → (sheets : List Sheet) → length sheets ≤ 48 →
+pub row_cap : (s : List ℕ) (keep : List ℕ → ℕ) (n : ℕ) → EachWithin s (λ y. keep y ≤ n) → (sheets : List Sheet) → length sheets ≤ 48 →
     (j : ℕ) (rest : List ℕ) (p : ℕ) → p < bundles s → get_or (rows s keep (drop j (map bids_of sheets)) ++ rest) p 0 ≤ n + 48 * 2 ^ 32
 row_cap s keep n low sheets few j rest p h =
     let bs = drop j (map bids_of sheets) in
@@ -86,28 +86,41 @@ row_cap s keep n low sheets few j rest p h =
     omega (
       arith,
       get_or-rows s keep bs rest p h,
-      optimum_cap keep s n (2 ^ 32) low bs most (bundle_at s p) (length-bundle_at s p) (bundle_at-within s p),
-      mul-le (length bs) (2 ^ 32) 48 (2 ^ 32) count (omega arith),
+      few_cap keep s n low bs count most (bundle_at s p) (length-bundle_at s p) (bundle_at-within s p),
     )
 
 -- where the rows from j on are filled, row j has room above its entries, so that the one before it can be filled
-pub below_filled : (s : List ℕ) (keep : List ℕ → ℕ) → ((y : List ℕ) → length y ≡ length s → Within y s → keep y ≤ 2 ^ 40) → (sheets : List Sheet) → length sheets ≤ 48
+pub below_filled : (s : List ℕ) (keep : List ℕ → ℕ) → EachWithin s (λ y. keep y ≤ 2 ^ 40) → (sheets : List Sheet) → length sheets ≤ 48
     → (j : ℕ) (below rest : List ℕ) → below ≡ rows s keep (drop j (map bids_of sheets)) ++ rest → Below s below
 below_filled s keep low sheets few j below rest is =
     let bs = drop j (map bids_of sheets) in
     record {
-      long = omega (arith, ap length is, length-append (rows s keep bs) rest, length-rows s keep bs, add-mul (length bs) 1 (bundles s));
+      long = omega (arith, table-long s keep bs below rest is, add-mul (length bs) 1 (bundles s));
       small = λ p l. omega (arith, ap (λ r. get_or r p 0) is, row_cap s keep (2 ^ 40) low sheets few j rest p l);
+    }
+
+-- where they are filled by little, row j is small
+pub small_filled : (s : List ℕ) (keep : List ℕ → ℕ) → EachWithin s (λ y. keep y ≤ 2 ^ 32) → (sheets : List Sheet) → length sheets ≤ 48
+    → (j : ℕ) (t rest : List ℕ) → FilledFrom s keep (map bids_of sheets) rest j t → SmallRow s j t
+small_filled s keep low sheets few j t rest is =
+    let bs = drop j (map bids_of sheets) in
+    record {
+      long = omega (arith, table-long s keep bs (drop (j * bundles s) t) rest is, length-drop (j * bundles s) t, add-mul (length bs) 1 (bundles s), add-mul j 1 (bundles s), bundles_pos s);
+      small = λ p l. omega (arith, get_or-drop (j * bundles s) t p 0, ap (λ r. get_or r p 0) is, row_cap s keep (2 ^ 32) low sheets few j rest p l);
     }
 
 -- a row of small numbers
 pub small_row : (s : List ℕ) (f : List ℕ → ℕ) (t rest : List ℕ) (k : ℕ) → drop (k * bundles s) t ≡ row s f ++ rest
-    → ((p : ℕ) → p < bundles s → f (bundle_at s p) ≤ 2 ^ 40) → SmallRow (bundles s) k t
-small_row s f t rest k is low p h = omega (arith, get_or-drop (k * bundles s) t p 0, ap (λ l. get_or l p 0) is, get_or-row s f rest p h, low p h)
+    → EachWithin s (λ y. f y ≤ 2 ^ 40) → SmallRow s k t
+small_row s f t rest k is low =
+    record {
+      long = omega (arith, ap length is, length-append (row s f) rest, length-row s f, length-drop (k * bundles s) t, add-mul k 1 (bundles s), bundles_pos s);
+      small = λ p h. omega (arith, get_or-drop (k * bundles s) t p 0, ap (λ l. get_or l p 0) is, get_or-row s f rest p h, low (bundle_at s p) (length-bundle_at s p) (bundle_at-within s p));
+    }
 
 -- a small row keeps little
-pub small-keep : (s t : List ℕ) (k : ℕ) → SmallRow (bundles s) k t → (y : List ℕ) → length y ≡ length s → Within y s → entry s (drop (k * bundles s) t) y ≤ 2 ^ 40
-small-keep s t k small y long held = omega (arith, get_or-drop (k * bundles s) t (place s y) 0, small (place s y) (place_below s y held))
+pub small-keep : (s t : List ℕ) (k : ℕ) → SmallRow s k t → EachWithin s (λ y. entry s (drop (k * bundles s) t) y ≤ 2 ^ 40)
+small-keep s t k row y long held = omega (arith, get_or-drop (k * bundles s) t (place s y) 0, row.small (place s y) (place_below s y held))
 
 -- the most without the bidder k, by the rows after it
 pub without_is : (s : List ℕ) (keep : List ℕ → ℕ) (bs : List Bids) (k : ℕ) (t rest : List ℕ) → k < length bs → FilledFrom s keep bs rest (k + 1) t
@@ -115,7 +128,7 @@ pub without_is : (s : List ℕ) (keep : List ℕ → ℕ) (bs : List Bids) (k : 
 unfolding optimum best_among
 without_is s keep bs k t rest h filled =
     let after : List Bids = drop (k + 1) bs in
-    optimum_like s (entry s (drop ((k + 1) * bundles s) t)) (optimum keep after) (λ y long held. ap (λ r. entry s r y) filled ∙ entry-rows s keep after rest y long held) (take k bs) s refl (within_refl s)
+    optimum_like s (entry s (drop ((k + 1) * bundles s) t)) (optimum keep after) (entry-rows s keep after rest _ filled) (take k bs) s refl (within_refl s)
     ∙ sym (optimum-append keep (take k bs) ([] ∷ after) s)
     ∙ ap (λ (ds : List Bids). optimum keep ds s) (ap (λ n. take k bs ++ ([] ∷ drop n bs)) (add-one k) ∙ sym (set_split bs k [] h))
 

@@ -1,13 +1,12 @@
 -- The rows of the table as lists: one row, one more in front of those that are filled, and what stands in the first. Assumes nothing.
-use Rattle.std.proofs.Common.{◌≡◌, ℕ, zero, suc, ◌+◌, ◌*◌, ◌<◌, ◌≤◌, List, [], ◌∷◌, ◌++◌, map, length, get_or, take, drop, set, sym, refl, ap, ◌∙◌, subst, append_assoc, add-mul, arith}
-use Rattle.std.specs.List.{range_with_len}
-use Rattle.std.proofs.lemmas.List.FromFn.{length-map-range_with_len, get_or-map-range_with_len, map-range_with_len_more, fill_by_all}
-use Rattle.std.proofs.lemmas.List.{append-nil, length-append, get_or_append_left, get_or-drop, get_or-take, length-take-le, take-append-drop, drop_at, drop-drop, drop_more, set_at}
+use Rattle.std.proofs.Common.{◌≡◌, ℕ, zero, suc, ◌+◌, ◌*◌, ◌<◌, ◌≤◌, List, [], ◌∷◌, ◌++◌, length, get_or, take, drop, sym, refl, ap, ◌∙◌, subst, append_assoc, add-mul, arith}
+use Rattle.std.proofs.lemmas.List.FromFn.{length-map-range_with_len, get_or-map-range_with_len, fill_by_all}
+use Rattle.std.proofs.lemmas.List.{append-nil, length-append, get_or_append_left, get_or-drop, get_or-take, length-take-le, take-append-drop, drop_at, drop-drop}
 use Rattle.bundle.specs.Bids.{Bids}
-use Rattle.bundle.specs.Units.{place, bundles, bundle_at, Within}
+use Rattle.bundle.specs.Units.{place, bundles, bundle_at}
 use Rattle.bundle.proofs.Bundles.{length-bundle_at, bundle_at-within, bundle_at-place, place_below, place-bundle_at}
 use Rattle.vcg.specs.Optimum.{best_among, optimum, Most}
-use Rattle.vcg.proofs.Alike.{best_among_like, optimum_like}
+use Rattle.vcg.proofs.Alike.{EachWithin, best_among_like, optimum_like}
 use Rattle.vcg.proofs.Optimal.{optimum_is_most}
 use Rattle.table.specs.Promises.{part_of, EntriesAreMost, EntriesAreAll}
 use Rattle.table.specs.Tables.{row, rows, table_of, entry, made, onto}
@@ -21,32 +20,14 @@ get_or-row s f t p h =
     ∙ get_or-map-range_with_len (λ p. f (bundle_at s p)) 0 (bundles s) p p 0 h (omega arith)
 
 -- the entry of a bundle within the supply
-pub entry_row : (s : List ℕ) (f : List ℕ → ℕ) (t y : List ℕ) → length y ≡ length s → Within y s → entry s (row s f ++ t) y ≡ f y
-entry_row s f t y long held = get_or-row s f t (place s y) (place_below s y held) ∙ ap f (bundle_at-place s y long held)
+pub entry_row : (s : List ℕ) (f : List ℕ → ℕ) (t below : List ℕ) → below ≡ row s f ++ t → EachWithin s (λ y. entry s below y ≡ f y)
+entry_row s f t below is y long held = ap (λ l. entry s l y) is ∙ get_or-row s f t (place s y) (place_below s y held) ∙ ap f (bundle_at-place s y long held)
 
 -- a row depends on the bundles within the supply alone
-pub row_like : (s : List ℕ) (f g : List ℕ → ℕ) → ((y : List ℕ) → length y ≡ length s → Within y s → f y ≡ g y) → row s f ≡ row s g
+pub row_like : (s : List ℕ) (f g : List ℕ → ℕ) → EachWithin s (λ y. f y ≡ g y) → row s f ≡ row s g
 row_like s f g like =
     fill_by_all (λ p. g (bundle_at s p)) (row s f) (bundles s) 0 (length-row s f)
     (λ p h. get_or-map-range_with_len (λ p. f (bundle_at s p)) 0 (bundles s) p p 0 h (omega arith) ∙ like (bundle_at s p) (length-bundle_at s p) (bundle_at-within s p))
-
--- f of each bundle written over xs up to the place p
-abbrev pub up_to : List ℕ → (List ℕ → ℕ) → ℕ → List ℕ → List ℕ
-up_to s f p xs = map (λ q. f (bundle_at s q)) (range_with_len 0 p) ++ drop p xs
-
-module _ (s : List ℕ) (f : List ℕ → ℕ) (xs t : List ℕ) (p : ℕ) (is : t ≡ up_to s f p xs) where
-  before : List ℕ
-  before = map (λ q. f (bundle_at s q)) (range_with_len 0 p)
-
-  -- one entry more
-  pub row_more : (v : ℕ) → p < length xs → v ≡ f (bundle_at s p) → set t p v ≡ up_to s f (p + 1) xs
-  unfolding before
-  row_more v h made =
-      ap (λ l. set l p v) (is ∙ ap (λ l. before ++ l) (drop_more xs p 0 h))
-      ∙ set_at before (get_or xs p 0) (drop (p + 1) xs) v p (length-map-range_with_len (λ q. f (bundle_at s q)) 0 p)
-      ∙ ap (λ n. before ++ (n ∷ drop (p + 1) xs)) made
-      ∙ sym (append_assoc before (f (bundle_at s p) ∷ []) (drop (p + 1) xs))
-      ∙ ap (λ l. l ++ drop (p + 1) xs) (sym (map-range_with_len_more (λ q. f (bundle_at s q)) 0 p p (omega arith)))
 
 -- any row is the row of its entries
 pub row_of : (s t : List ℕ) → bundles s ≤ length t → t ≡ row s (entry s t) ++ drop (bundles s) t
@@ -62,11 +43,15 @@ length-rows s keep [] = omega (arith, length-row s keep)
 length-rows s keep (b ∷ bs) =
     omega (arith, length-append (row s (optimum keep (b ∷ bs))) (rows s keep bs), length-row s (optimum keep (b ∷ bs)), length-rows s keep bs, add-mul (length bs + 1) 1 (bundles s))
 
+-- a table in which they are filled is as long
+pub table-long : (s : List ℕ) (keep : List ℕ → ℕ) (bs : List Bids) (t rest : List ℕ) → t ≡ rows s keep bs ++ rest → (length bs + 1) * bundles s ≤ length t
+table-long s keep bs t rest is = omega (arith, ap length is, length-append (rows s keep bs) rest, length-rows s keep bs)
+
 pub rows-onto : (s : List ℕ) (keep : List ℕ → ℕ) (bs : List Bids) (t : List ℕ) → rows s keep bs ++ drop ((length bs + 1) * bundles s) t ≡ onto (rows s keep bs) t
 rows-onto s keep bs t = ap (λ k. rows s keep bs ++ drop k t) (sym (length-rows s keep bs))
 
 -- the table depends on what the seller keeps of the bundles within the supply alone
-pub rows_like : (s : List ℕ) (f g : List ℕ → ℕ) → ((y : List ℕ) → length y ≡ length s → Within y s → f y ≡ g y) → (bs : List Bids) → rows s f bs ≡ rows s g bs
+pub rows_like : (s : List ℕ) (f g : List ℕ → ℕ) → EachWithin s (λ y. f y ≡ g y) → (bs : List Bids) → rows s f bs ≡ rows s g bs
 unfolding rows
 rows_like s f g like [] = row_like s f g like
 rows_like s f g like (b ∷ bs) =
@@ -86,15 +71,15 @@ first_row s keep (b ∷ bs) t = append_assoc (row s (optimum keep (b ∷ bs))) (
 pub get_or-rows : (s : List ℕ) (keep : List ℕ → ℕ) (bs : List Bids) (t : List ℕ) (p : ℕ) → p < bundles s → get_or (rows s keep bs ++ t) p 0 ≡ optimum keep bs (bundle_at s p)
 get_or-rows s keep bs t p h = ap (λ l. get_or l p 0) (first_row s keep bs t) ∙ get_or-row s (optimum keep bs) (later s keep bs ++ t) p h
 
-pub entry-rows : (s : List ℕ) (keep : List ℕ → ℕ) (bs : List Bids) (t y : List ℕ) → length y ≡ length s → Within y s → entry s (rows s keep bs ++ t) y ≡ optimum keep bs y
-entry-rows s keep bs t y long held = ap (λ l. entry s l y) (first_row s keep bs t) ∙ entry_row s (optimum keep bs) (later s keep bs ++ t) y long held
+pub entry-rows : (s : List ℕ) (keep : List ℕ → ℕ) (bs : List Bids) (t below : List ℕ) → below ≡ rows s keep bs ++ t → EachWithin s (λ y. entry s below y ≡ optimum keep bs y)
+entry-rows s keep bs t below is = entry_row s (optimum keep bs) (later s keep bs ++ t) below (is ∙ first_row s keep bs t)
 
 -- one more row in front
 pub rows_more : (s : List ℕ) (keep : List ℕ → ℕ) (b : Bids) (bs : List Bids) (t below : List ℕ) → below ≡ rows s keep bs ++ t
     → row s (made s below b) ++ below ≡ rows s keep (b ∷ bs) ++ t
 unfolding rows optimum
 rows_more s keep b bs t below is =
-    let like : (y : List ℕ) → length y ≡ length s → Within y s → entry s below y ≡ optimum keep bs y = λ y long held. ap (λ l. entry s l y) is ∙ entry-rows s keep bs t y long held in
+    let like = entry-rows s keep bs t below is in
     let same : row s (made s below b) ≡ row s (optimum keep (b ∷ bs)) =
     row_like s (made s below b) (optimum keep (b ∷ bs)) (λ y long held.
     best_among_like s (entry s below) (optimum keep bs) like y long held b (entry s below y) ∙ ap (best_among (optimum keep bs) y b) (like y long held)) in
@@ -114,12 +99,11 @@ drop-rows s keep (b ∷ bs) (suc k) t h =
     ∙ drop-rows s keep bs k t (omega arith)
 
 -- the entry of the bidders from k on for a bundle
-pub get_or-table : (s : List ℕ) (keep : List ℕ → ℕ) (bs : List Bids) (k : ℕ) (t x : List ℕ) → k ≤ length bs → length x ≡ length s → Within x s
-    → get_or (rows s keep bs ++ t) (k * bundles s + place s x) 0 ≡ optimum keep (drop k bs) x
-get_or-table s keep bs k t x h long held =
+pub get_or-table : (s : List ℕ) (keep : List ℕ → ℕ) (bs : List Bids) (k : ℕ) (t : List ℕ) → k ≤ length bs
+    → EachWithin s (λ x. get_or (rows s keep bs ++ t) (k * bundles s + place s x) 0 ≡ optimum keep (drop k bs) x)
+get_or-table s keep bs k t h x long held =
     sym (get_or-drop (k * bundles s) (rows s keep bs ++ t) (place s x) 0)
-    ∙ ap (λ l. get_or l (place s x) 0) (drop-rows s keep bs k t h)
-    ∙ entry-rows s keep (drop k bs) t x long held
+    ∙ entry-rows s keep (drop k bs) t _ (drop-rows s keep bs k t h) x long held
 
 pub entries_are_all : EntriesAreAll
 entries_are_all a = length-rows a.supply a.keep a.bidders
@@ -127,5 +111,5 @@ entries_are_all a = length-rows a.supply a.keep a.bidders
 pub entries_are_most : EntriesAreMost
 entries_are_most a k x h long held =
     let is : get_or (table_of a) (k * bundles a.supply + place a.supply x) 0 ≡ optimum a.keep (drop k a.bidders) x =
-    ap (λ l. get_or l (k * bundles a.supply + place a.supply x) 0) (sym (append-nil (table_of a))) ∙ get_or-table a.supply a.keep a.bidders k [] x h long held in
+    ap (λ l. get_or l (k * bundles a.supply + place a.supply x) 0) (sym (append-nil (table_of a))) ∙ get_or-table a.supply a.keep a.bidders k [] h x long held in
     subst (Most (part_of a k x)) (sym is) (optimum_is_most (part_of a k x))

@@ -1,14 +1,20 @@
 -- What a row needs to be filled. Assumes nothing: these are definitions.
 use Rattle.std.specs.Prelude.{◌≡◌, ℕ, ◌+◌, ◌*◌, ◌^◌, ◌<◌, ◌≤◌, List, map, length, slice_index}
+use Rattle.bundle.specs.Bids.{Bids}
 use Rattle.bundle.specs.Bundles.{units_of}
 use Rattle.bundle.specs.Units.{place, bundles, bundle_at}
 use Rattle.bundle.specs.declared.units.Bundle.{Bundle}
-use Rattle.sheets.specs.declared.parts.Line.{Line}
+use Rattle.sheets.specs.Sheets.{bid_of}
+use Rattle.table.specs.declared.offers.Offer.{Offer}
 use Rattle.vcg.specs.Auction.{Auction}
 
--- the place of what each line wants
-abbrev pub places_of : List ℕ → List Line → List ℕ
-places_of supply lines = map (λ (l : Line). place supply (units_of l.units)) lines
+-- an offer stands at the place of what its line wants
+abbrev pub Placed : List ℕ → Offer → Type 0
+Placed supply o = o.place ≡ place supply (units_of o.line.units)
+
+-- the alternatives that are offered
+abbrev pub offered : List Offer → Bids
+offered os = map (λ (o : Offer). bid_of o.line) os
 
 -- a row for each bidder and one for the seller
 abbrev pub HasRoom : Auction → List ℕ → Type 0
@@ -19,9 +25,10 @@ pub record Below (supply below : List ℕ) : Type 0 where
   pub long : bundles supply ≤ length below
   pub small : (p : ℕ) → p < bundles supply → slice_index below p ≤ 2 ^ 62
 
--- the entries of row k are small
-abbrev pub SmallRow : ℕ → ℕ → List ℕ → Type 0
-SmallRow m k t = (p : ℕ) → p < m → slice_index t (k * m + p) ≤ 2 ^ 40
+-- row k, with entries that are small
+pub record SmallRow (supply : List ℕ) (k : ℕ) (t : List ℕ) : Type 0 where
+  pub long : (k + 1) * bundles supply ≤ length t
+  pub small : (p : ℕ) → p < bundles supply → slice_index t (k * bundles supply + p) ≤ 2 ^ 40
 
 -- Asked holds of each bundle within the supply, with its place
 abbrev pub AtEach : List ℕ → (Bundle → ℕ → Type 0) → Type 0

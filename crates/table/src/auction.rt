@@ -7,6 +7,7 @@ use bundle::{Reserve, Supply};
 use sheets::Sheet;
 
 // What is for sale, the reserve, and the sheet of each farm, at most 48.
+// Shown by a view: its fields are public, and a model would hide them.
 #[derive(Clone, Copy)]
 pub struct Auction<'a> {
     pub supply: &'a Supply,
@@ -17,6 +18,7 @@ pub struct Auction<'a> {
 
 impl<'a> Auction<'a> {
     ghost use Rattle.bundle.specs.Checks.{viewed};
+    ghost use Rattle.bundle.specs.Stocks.{bundles_of};
     ghost use Rattle.table.specs.Refusals.{auction_answer, room_answer};
     ghost use Rattle.table.specs.Tables.{lent_auction, first_bidders};
 
@@ -52,7 +54,7 @@ impl<'a> Auction<'a> {
 
     // Refused where the table has not a row for each farm and one for the reserve.
     pub fn check_room(&self, table: &[u64]) -> Result<(), TableRefusal>
-        ensures { result ≡ room_answer (lent_auction self.now) (length table.now) }
+        ensures { result ≡ room_answer (length self.now.sheets.now) (bundles_of self.now.supply.now) (length table.now) }
     {
         if table.len() < (self.sheets.len() + 1) * self.supply.bundles() {
             return Err(TableRefusal::Table);

@@ -1,35 +1,38 @@
 -- Sellers that hold the units within the supply to be worth the same, bidders in two parts, and how much the optimum may be. Assumes nothing.
-use Rattle.std.proofs.Common.{◌≡◌, ℕ, zero, suc, ◌+◌, ◌*◌, ◌≤◌, List, [], ◌∷◌, ◌++◌, length, get_or, refl, ap, ◌∙◌, arith}
+use Rattle.std.proofs.Common.{◌≡◌, ℕ, suc, ◌+◌, ◌*◌, ◌≤◌, List, [], ◌∷◌, ◌++◌, length, get_or, refl, ap, ◌∙◌, arith}
 use Rattle.bundle.specs.Bids.{Bids}
 use Rattle.bundle.specs.Units.{less, Within}
-use Rattle.bundle.proofs.Bundles.{length-less, less-within, within_refl, within_trans}
+use Rattle.bundle.proofs.Bundles.{length-less, less-held, within_refl}
 use Rattle.vcg.specs.Auction.{no_bid, chosen}
 use Rattle.vcg.specs.Optimum.{better, best_among, optimum, first_among, pick}
-use Rattle.vcg.proofs.Alternatives.{pick_is}
+use Rattle.vcg.proofs.Alternatives.{choice_cases, pick_is}
+
+-- P holds of each bundle within s
+abbrev pub EachWithin : List ℕ → (List ℕ → Type 0) → Type 0
+EachWithin s P = (y : List ℕ) → length y ≡ length s → Within y s → P y
 
 -- f and g agree on the bundles within s
-module _ (s : List ℕ) (f g : List ℕ → ℕ) (like : (y : List ℕ) → length y ≡ length s → Within y s → f y ≡ g y) where
-  left_like : (x : List ℕ) → length x ≡ length s → Within x s → (w : List ℕ) → f (less x w) ≡ g (less x w)
-  left_like x long held w = like (less x w) (length-less x w ∙ long) (within_trans (less x w) x s (less-within x w) held)
+module _ (s : List ℕ) (f g : List ℕ → ℕ) (like : EachWithin s (λ y. f y ≡ g y)) where
+  left_like : EachWithin s (λ x. (w : List ℕ) → f (less x w) ≡ g (less x w))
+  left_like x long held w = like (less x w) (length-less x w ∙ long) (less-held s x w held)
 
-  pub best_among_like : (x : List ℕ) → length x ≡ length s → Within x s → (b : Bids) (m : ℕ) → best_among f x b m ≡ best_among g x b m
+  pub best_among_like : EachWithin s (λ x. (b : Bids) (m : ℕ) → best_among f x b m ≡ best_among g x b m)
   unfolding best_among
   best_among_like x long held [] m = refl
   best_among_like x long held (l ∷ ls) m =
       let e : better f x l m ≡ better g x l m = rw (left_like x long held l.want) in
       rw e (best_among_like x long held ls (better g x l m))
 
-  pub first_among_like : (x : List ℕ) → length x ≡ length s → Within x s → (t : ℕ) (b : Bids) (n : ℕ) → first_among f x t b n ≡ first_among g x t b n
+  pub first_among_like : EachWithin s (λ x. (t : ℕ) (b : Bids) (n : ℕ) → first_among f x t b n ≡ first_among g x t b n)
   unfolding first_among
   first_among_like x long held t [] n = refl
   first_among_like x long held t (l ∷ ls) n = rw (left_like x long held l.want, first_among_like x long held t ls (suc n))
 
-  pub pick_like : (x : List ℕ) → length x ≡ length s → Within x s → (t : ℕ) (b : Bids) → pick f x t b ≡ pick g x t b
+  pub pick_like : EachWithin s (λ x. (t : ℕ) (b : Bids) → pick f x t b ≡ pick g x t b)
   unfolding pick
   pick_like x long held t b = rw (like x long held, first_among_like x long held t b 1)
 
-pub optimum_like : (s : List ℕ) (f g : List ℕ → ℕ) → ((y : List ℕ) → length y ≡ length s → Within y s → f y ≡ g y)
-    → (bs : List Bids) (x : List ℕ) → length x ≡ length s → Within x s → optimum f bs x ≡ optimum g bs x
+pub optimum_like : (s : List ℕ) (f g : List ℕ → ℕ) → EachWithin s (λ y. f y ≡ g y) → (bs : List Bids) → EachWithin s (λ x. optimum f bs x ≡ optimum g bs x)
 unfolding optimum
 optimum_like s f g like [] x long held = like x long held
 optimum_like s f g like (b ∷ bs) x long held =
@@ -45,10 +48,10 @@ optimum-append keep (b ∷ bs) ds x =
     ∙ ap (best_among (optimum (optimum keep ds) bs) x b) (optimum-append keep bs ds x)
 
 -- a bidder adds at most its highest stated worth
-pub optimum_cap : (keep : List ℕ → ℕ) (s : List ℕ) (n c : ℕ) → ((y : List ℕ) → length y ≡ length s → Within y s → keep y ≤ n)
+pub optimum_cap : (keep : List ℕ → ℕ) (s : List ℕ) (n c : ℕ) → EachWithin s (λ y. keep y ≤ n)
     → (bs : List Bids) → ((i : ℕ) (j : ℕ) → (get_or (get_or bs i []) j no_bid).value ≤ c)
-    → (x : List ℕ) → length x ≡ length s → Within x s → optimum keep bs x ≤ n + length bs * c
-unfolding optimum chosen
+    → EachWithin s (λ x. optimum keep bs x ≤ n + length bs * c)
+unfolding optimum
 optimum_cap keep s n c low [] most x long held = omega (arith, low x long held)
 optimum_cap keep s n c low (b ∷ bs) most x long held =
     let k : ℕ = pick (optimum keep bs) x (optimum keep (b ∷ bs) x) b in
@@ -56,10 +59,6 @@ optimum_cap keep s n c low (b ∷ bs) most x long held =
     omega (
       arith,
       (pick_is (optimum keep bs) x b).hit.makes,
-      value k,
-      optimum_cap keep s n c low bs (λ i j. most (suc i) j) (less x w) (length-less x w ∙ long) (within_trans (less x w) x s (less-within x w) held),
+      choice_cases (λ l. l.value ≤ c) b (omega arith) (λ j _. most 0 j) k,
+      optimum_cap keep s n c low bs (λ i j. most (suc i) j) (less x w) (length-less x w ∙ long) (less-held s x w held),
     )
-  where
-    value : (k : ℕ) → (chosen b k).value ≤ c
-    value zero = omega arith
-    value (suc j) = most 0 j

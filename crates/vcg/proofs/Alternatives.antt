@@ -19,6 +19,16 @@ pub record Picked (rest : List ℕ → ℕ) (x : List ℕ) (t : ℕ) (b : Bids) 
   pub hit : Hit rest x t (chosen b c)
   pub least : (d : ℕ) → d < c → Hit rest x t (chosen b d) → ⊥
 
+-- what holds of no bid and of each alternative holds of each choice
+pub choice_cases : (P : Bid → Type 0) (b : Bids) → P no_bid → ((j : ℕ) → j < length b → P (get_or b j no_bid)) → (c : ℕ) → P (chosen b c)
+unfolding chosen
+choice_cases P b none each zero = none
+choice_cases P b none each (suc j) = go (cases_lt j (length b))
+  where
+    go : (j < length b) ⊎ (length b ≤ j) → P (get_or b j no_bid)
+    go (inl h) = each j h
+    go (inr h) = rw (get_or_past b j no_bid h) none
+
 module _ (rest : List ℕ → ℕ) (x : List ℕ) where
   better_up : (l : Bid) (m : ℕ) → m ≤ better rest x l m
   better_up l m =
@@ -61,19 +71,16 @@ module _ (rest : List ℕ → ℕ) (x : List ℕ) where
           ⊎ ((j : ℕ) × (j < suc (length ls)) × Hit rest x (best_among rest x ls (better rest x l m)) (get_or (l ∷ ls) j no_bid))
       go (inl e) (inl f) = inl (f ∙ e)
       go (inr e) (inl f) = inr (0, omega arith, record { fits = e.fits; makes = e.makes ∙ sym f })
-      go (inl e) (inr r) = inr (suc r.0, omega (arith, r.1), r.2)
-      go (inr e) (inr r) = inr (suc r.0, omega (arith, r.1), r.2)
+      go (inl e) (inr r) = inr (suc r.0, omega arith, r.2)
+      go (inr e) (inr r) = inr (suc r.0, omega arith, r.2)
 
   -- no choice makes more than the best
   pub choice_bound : (b : Bids) (c : ℕ) → Within (chosen b c).want x
       → (chosen b c).value + rest (less x (chosen b c).want) ≤ best_among rest x b (rest x)
-  unfolding chosen
-  choice_bound b zero w = rw (less_nil x) (omega (arith, best_up b (rest x)))
-  choice_bound b (suc j) w = go (cases_lt j (length b))
-    where
-      go : (j < length b) ⊎ (length b ≤ j) → (get_or b j no_bid).value + rest (less x (get_or b j no_bid).want) ≤ best_among rest x b (rest x)
-      go (inl h) = best_has b (rest x) j h w
-      go (inr h) = rw (get_or_past b j no_bid h) (rw (less_nil x) (omega (arith, best_up b (rest x))))
+  choice_bound b =
+      choice_cases (λ l. Within l.want x → l.value + rest (less x l.want) ≤ best_among rest x b (rest x)) b
+      (λ _. rw (less_nil x) (omega (arith, best_up b (rest x))))
+      (λ j h. best_has b (rest x) j h)
 
 module _ (rest : List ℕ → ℕ) (x : List ℕ) (t : ℕ) where
   hits_true : (l : Bid) → makes rest x t l ≡ true → Hit rest x t l
@@ -117,7 +124,7 @@ module _ (rest : List ℕ → ℕ) (x : List ℕ) (t : ℕ) where
   none_hits e = record { fits = nil_within x; makes = rw (less_nil x) (omega arith) }
 
   hits_none : Hit rest x t no_bid → rest x ≡ t
-  hits_none h = omega (arith, h.makes, ap rest (less_nil x))
+  hits_none h = omega (arith, ap rest (less_nil x))
 
   pick_none : (b : Bids) → eqb (rest x) t ≡ true → Picked rest x t b 0
   unfolding chosen
@@ -154,13 +161,13 @@ worth-is b x =
     record {
       at = pick (λ _. 0) x (worth b x) b;
       within = p.hit.fits;
-      is = omega (arith, p.hit.makes);
+      is = omega arith;
       most = λ k w. omega (arith, choice_bound (λ _. 0) x b k w);
     }
 
 -- and only one
 pub worth_exactly : WorthExactly
 worth_exactly b x w = (
-  λ h. let k = worth-is b x in omega (arith, h.most k.at k.within, k.most h.at h.within, h.is, k.is),
+  λ h. let k = worth-is b x in omega (arith, h.most k.at k.within, k.most h.at h.within),
   λ e. subst (Worth b x) (sym e) (worth-is b x),
 )

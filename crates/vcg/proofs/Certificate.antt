@@ -1,13 +1,12 @@
 -- A table that passes its own steps bounds every choice. Assumes nothing.
-use Rattle.std.proofs.Common.{◌≡◌, ℕ, zero, suc, ◌+◌, ◌<◌, ◌≤◌, ◌⊎◌, List, [], ◌∷◌, length, get_or, refl, ap, ◌∙◌, inl, inr, arith}
-use Rattle.std.proofs.lemmas.List.{get_or_past}
-use Rattle.std.proofs.lemmas.Bool.{cases_lt}
+use Rattle.std.proofs.Common.{◌≡◌, ℕ, suc, ◌+◌, ◌≤◌, List, [], ◌∷◌, length, get_or, refl, ap, ◌∙◌, arith}
 use Rattle.bundle.specs.Bids.{Bids}
 use Rattle.bundle.specs.Units.{less, Within}
-use Rattle.bundle.proofs.Bundles.{less_nil, less-plus, length-less, less-within, within_trans, within_refl, within-plus_left, within-plus_right}
+use Rattle.bundle.proofs.Bundles.{less_nil, less-plus, length-less, less-held, within_refl, within-plus_left, within-plus_right}
 use Rattle.vcg.specs.Auction.{Auction, no_bid, chosen, taken, stated}
 use Rattle.vcg.specs.Best.{worth_of}
 use Rattle.vcg.specs.Certificates.{Bounds, TableProof}
+use Rattle.vcg.proofs.Alternatives.{choice_cases}
 
 abbrev auction : List ℕ → (List ℕ → ℕ) → List Bids → Auction
 auction s keep bs = record { supply = s; keep = keep; bidders = bs }
@@ -28,13 +27,11 @@ bounds_tail s keep b bs F h = record {
 bounds_step : (s : List ℕ) (keep : List ℕ → ℕ) (b : Bids) (bs : List Bids) (F : ℕ → List ℕ → ℕ) (x : List ℕ) (c : ℕ)
     → Bounds (auction s keep (b ∷ bs)) F → length x ≡ length s → Within x s → Within (chosen b c).want x
     → (chosen b c).value + F 1 (less x (chosen b c).want) ≤ F 0 x
-unfolding chosen
-bounds_step s keep b bs F x zero h l w f = rw (less_nil x) (omega (arith, h.skip 0 x (omega arith) l w))
-bounds_step s keep b bs F x (suc j) h l w f = go (cases_lt j (length b))
-  where
-    go : (j < length b) ⊎ (length b ≤ j) → (get_or b j no_bid).value + F 1 (less x (get_or b j no_bid).want) ≤ F 0 x
-    go (inl i) = h.take 0 j x (omega arith) i l w f
-    go (inr i) = rw (get_or_past b j no_bid i) (rw (less_nil x) (omega (arith, h.skip 0 x (omega arith) l w)))
+bounds_step s keep b bs F x c h l w =
+    choice_cases (λ g. Within g.want x → g.value + F 1 (less x g.want) ≤ F 0 x) b
+    (λ _. rw (less_nil x) (omega (arith, h.skip 0 x (omega arith) l w)))
+    (λ j i. h.take 0 j x (omega arith) i l w)
+    c
 
 table_bound : (s : List ℕ) (keep : List ℕ → ℕ) (bs : List Bids) (F : ℕ → List ℕ → ℕ) (x cs : List ℕ)
     → Bounds (auction s keep bs) F → length x ≡ length s → Within x s → length cs ≡ length bs → Within (taken bs cs) x
@@ -46,10 +43,9 @@ table_bound s keep (b ∷ bs) F x (c ∷ cs) h l w m f =
     let g : List ℕ = (chosen b c).want in
     let p : Within g x = within-plus_left g (taken bs cs) x f in
     let q : Within (taken bs cs) (less x g) = within-plus_right g (taken bs cs) x f in
-    let v : Within (less x g) s = within_trans (less x g) x s (less-within x g) w in
     omega (
       arith,
-      table_bound s keep bs (λ k. F (suc k)) (less x g) cs (bounds_tail s keep b bs F h) (length-less x g ∙ l) v (omega arith) q,
+      table_bound s keep bs (λ k. F (suc k)) (less x g) cs (bounds_tail s keep b bs F h) (length-less x g ∙ l) (less-held s x g w) (omega arith) q,
       bounds_step s keep b bs F x c h l w p,
       ap keep (less-plus x g (taken bs cs)),
     )
@@ -58,5 +54,5 @@ pub table_proof : TableProof
 unfolding worth_of
 table_proof a F cs h can e = record {
   can = can;
-  most = λ ds f. omega (arith, e, table_bound a.supply a.keep a.bidders F a.supply ds h refl (within_refl a.supply) f.long f.fits);
+  most = λ ds f. omega (arith, table_bound a.supply a.keep a.bidders F a.supply ds h refl (within_refl a.supply) f.long f.fits);
 }

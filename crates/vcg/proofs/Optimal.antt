@@ -5,7 +5,7 @@ use Rattle.bundle.specs.Units.{less, Within}
 use Rattle.bundle.proofs.Bundles.{less_nil, less-plus, within-plus, within-plus_left, within-plus_right, nil_within}
 use Rattle.vcg.specs.Auction.{Auction, chosen, taken, stated}
 use Rattle.vcg.specs.Best.{worth_of, Best, Sooner, here, later, First}
-use Rattle.vcg.specs.Optimum.{optimum, pick, award, best_worth, best_choice, OptimumIsMost, AwardIsFirstBest}
+use Rattle.vcg.specs.Optimum.{optimum, pick, award, best_worth, best_choice, OptimumIsMost}
 use Rattle.vcg.proofs.Alternatives.{choice_bound, pick_is}
 
 -- no choice makes more than the optimum
@@ -39,7 +39,7 @@ award_reaches keep (b ∷ bs) x =
     record {
       long = ap suc r.long;
       fits = within-plus g (taken bs (award keep bs (less x g))) x p.hit.fits r.fits;
-      makes = omega (arith, p.hit.makes, r.makes, ap keep (less-plus x g (taken bs (award keep bs (less x g)))));
+      makes = omega (arith, ap keep (less-plus x g (taken bs (award keep bs (less x g)))));
     }
 
 -- no choice that reaches the optimum comes sooner than the award
@@ -78,7 +78,7 @@ award_best a =
     let r = award_reaches a.keep a.bidders a.supply in
     record {
       can = record { long = r.long; fits = r.fits };
-      most = λ ds f. omega (arith, r.makes, optimum_bound a.keep a.bidders a.supply ds f.long f.fits);
+      most = λ ds f. omega (arith, optimum_bound a.keep a.bidders a.supply ds f.long f.fits);
     }
 
 pub award-worth : (a : Auction) → worth_of a (best_choice a) ≡ best_worth a
@@ -95,22 +95,17 @@ optimum_is_most a =
       most = λ ds f. optimum_bound a.keep a.bidders a.supply ds f.long f.fits;
     }
 
-pub award_is_first_best : AwardIsFirstBest
+pub award_is_first : (a : Auction) → First a (best_choice a)
 unfolding First worth_of
-award_is_first_best a = (
-  award_best a,
-  λ ds best sooner.
-      let r = award_reaches a.keep a.bidders a.supply in
-      award_first a.keep a.bidders a.supply ds
-      (record {
-        long = best.can.long;
-        fits = best.can.fits;
-        makes = omega (
-          arith,
-          r.makes,
-          best.most (best_choice a) (award_best a).can,
-          optimum_bound a.keep a.bidders a.supply ds best.can.long best.can.fits,
-        );
-      })
-      sooner,
-)
+award_is_first a ds best =
+    let r = award_reaches a.keep a.bidders a.supply in
+    award_first a.keep a.bidders a.supply ds
+    (record {
+      long = best.can.long;
+      fits = best.can.fits;
+      makes = omega (
+        arith,
+        best.most (best_choice a) (award_best a).can,
+        optimum_bound a.keep a.bidders a.supply ds best.can.long best.can.fits,
+      );
+    })

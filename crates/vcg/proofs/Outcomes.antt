@@ -5,11 +5,11 @@ use Rattle.std.proofs.lemmas.List.{ext_get_or}
 use Rattle.vcg.specs.Auction.{Auction, chosen, with_bids}
 use Rattle.vcg.specs.Charges.{Outcome, gets, Ruled, Settled, Grows}
 use Rattle.vcg.specs.Optimum.{best_worth, worth_without, best_choice, charge_at, outcome_of, OutcomeExactly}
-use Rattle.vcg.proofs.Optimal.{award_best, award-worth, award_is_first_best}
+use Rattle.vcg.proofs.Optimal.{award_best, award-worth, award_is_first}
 use Rattle.vcg.proofs.Order.{one_choice}
 use Rattle.vcg.proofs.Rule.{best_same, room}
 
-length-charges : (a : Auction) → length (outcome_of a).charge ≡ length a.bidders
+pub length-charges : (a : Auction) → length (outcome_of a).charge ≡ length a.bidders
 length-charges a = length-map-range_with_len (charge_at a) 0 (length a.bidders)
 
 get_or-charge : (a : Auction) (i : ℕ) → i < length a.bidders → get_or (outcome_of a).charge i 0 ≡ charge_at a i
@@ -41,7 +41,7 @@ outcome-is-ruled a grows = record {
 outcome-is-settled : (a : Auction) → Grows a → Settled a (outcome_of a)
 outcome-is-settled a grows = record {
   ruled = outcome-is-ruled a grows;
-  first = (award_is_first_best a).1;
+  first = award_is_first a;
   each_once = length-charges a;
 }
 
@@ -53,8 +53,6 @@ charge-is a o i h r e =
     let v : (chosen (get_or a.bidders i []) (get_or o.choice i 0)).value ≡ (chosen (get_or a.bidders i []) (get_or (best_choice a) i 0)).value = rw e in
     omega (
       arith,
-      c.sum,
-      v,
       award-worth a,
       award-worth (with_bids a i []),
       best_same a o.choice (best_choice a) r.best (award_best a),
@@ -65,12 +63,11 @@ charges_are : (a : Auction) (o : Outcome) → Settled a o → o.choice ≡ best_
 charges_are a o s e =
     ext_get_or 0 o.charge (outcome_of a).charge
     (s.each_once ∙ sym (length-charges a))
-    (λ i h. let k : i < length a.bidders = omega (arith, s.each_once) in charge-is a o i k s.ruled e ∙ sym (get_or-charge a i k))
+    (λ i h. let k : i < length a.bidders = omega arith in charge-is a o i k s.ruled e ∙ sym (get_or-charge a i k))
 
 settled-is-outcome : (a : Auction) (o : Outcome) → Settled a o → o ≡ outcome_of a
 settled-is-outcome a o s =
-    let f = award_is_first_best a in
-    let e : o.choice ≡ best_choice a = one_choice a o.choice (best_choice a) s.ruled.best f.0 s.first f.1 in
+    let e : o.choice ≡ best_choice a = one_choice a o.choice (best_choice a) s.ruled.best (award_best a) s.first (award_is_first a) in
     let with-choice : List ℕ → Outcome = λ c. record { choice = c; charge = o.charge } in
     let with-charge : List ℕ → Outcome = λ c. record { choice = best_choice a; charge = c } in
     ap with-choice e ∙ ap with-charge (charges_are a o s e)

@@ -65,21 +65,29 @@ beside_free : (a : Auction) (i : ℕ) (g cs : List ℕ) (c : ℕ) → beside a i
 unfolding beside
 beside_free a i g cs c = rw (stated_free a.bidders i cs c, taken_free a.bidders i cs c)
 
-worth-set : (a : Auction) (i : ℕ) (b : Bids) (cs : List ℕ) (k : ℕ) → i < length a.bidders → length cs ≡ length a.bidders
-    → worth_of (with_bids a i b) (set cs i k) ≡ (chosen b k).value + beside a i (chosen b k).want cs
-worth-set a i b cs k h l =
-    let e : get_or (set cs i k) i 0 ≡ k = get_or-set_same cs i k 0 (omega arith) in
-    worth-at a i b (set cs i k) h (length-set cs i k ∙ l)
-    ∙ rw (e, beside_free a i (chosen b k).want cs k)
-
-feasible_set : (a : Auction) (i : ℕ) (b : Bids) (cs : List ℕ) (k : ℕ) → i < length a.bidders → length cs ≡ length a.bidders
-    → Within (plus (chosen b k).want (taken (set a.bidders i []) cs)) a.supply → Feasible (with_bids a i b) (set cs i k)
+-- one choice for each bidder, whatever bidder i states
+long_in : (a : Auction) (i : ℕ) (b : Bids) (cs : List ℕ) → Feasible (with_bids a i b) cs → length cs ≡ length a.bidders
 unfolding with_bids
-feasible_set a i b cs k h l w =
-    let e : get_or (set cs i k) i 0 ≡ k = get_or-set_same cs i k 0 (omega arith) in
-    let t : taken (set a.bidders i b) (set cs i k) ≡ plus (chosen b k).want (taken (set a.bidders i []) cs)
-    = taken_at a.bidders i b (set cs i k) h (omega (arith, length-set cs i k)) ∙ rw (e, taken_free a.bidders i cs k) in
-    record { long = simp length-set l; fits = rw t w }
+long_in a i b cs can = can.long ∙ length-set a.bidders i b
+
+worth_in : (a : Auction) (i : ℕ) (b : Bids) (cs : List ℕ) → i < length a.bidders → Feasible (with_bids a i b) cs
+    → worth_of (with_bids a i b) cs ≡ (chosen b (get_or cs i 0)).value + beside a i (chosen b (get_or cs i 0)).want cs
+worth_in a i b cs h can = worth-at a i b cs h (long_in a i b cs can)
+
+-- with choice k of bidder i in place of its own
+module _ (a : Auction) (i : ℕ) (b : Bids) (cs : List ℕ) (k : ℕ) (h : i < length a.bidders) (l : length cs ≡ length a.bidders) where
+  chosen-set : get_or (set cs i k) i 0 ≡ k
+  chosen-set = get_or-set_same cs i k 0 (omega arith)
+
+  worth-set : worth_of (with_bids a i b) (set cs i k) ≡ (chosen b k).value + beside a i (chosen b k).want cs
+  worth-set = worth-at a i b (set cs i k) h (length-set cs i k ∙ l) ∙ rw (chosen-set, beside_free a i (chosen b k).want cs k)
+
+  feasible_set : Within (plus (chosen b k).want (taken (set a.bidders i []) cs)) a.supply → Feasible (with_bids a i b) (set cs i k)
+  unfolding with_bids
+  feasible_set w =
+      let t : taken (set a.bidders i b) (set cs i k) ≡ plus (chosen b k).want (taken (set a.bidders i []) cs)
+      = taken_at a.bidders i b (set cs i k) h (omega (arith, length-set cs i k)) ∙ rw (chosen-set, taken_free a.bidders i cs k) in
+      record { long = simp length-set l; fits = rw t w }
 
 -- beside what the others do under ds, bidder i can take any alternative within what it took there
 swap : (a : Auction) (i : ℕ) (b d : Bids) (cs ds : List ℕ) (k : ℕ) → i < length a.bidders
@@ -87,24 +95,22 @@ swap : (a : Auction) (i : ℕ) (b d : Bids) (cs ds : List ℕ) (k : ℕ) → i <
     → (chosen b k).value + beside a i (chosen b k).want ds ≤ (chosen b (get_or cs i 0)).value + beside a i (chosen b (get_or cs i 0)).want cs
 unfolding with_bids
 swap a i b d cs ds k h best can w =
-    let l : length ds ≡ length a.bidders = can.long ∙ length-set a.bidders i d in
-    let m : length cs ≡ length a.bidders = best.can.long ∙ length-set a.bidders i b in
+    let l = long_in a i d ds can in
     let t = taken_at a.bidders i d ds h (omega arith) in
     let f : Within (plus (chosen d (get_or ds i 0)).want (taken (set a.bidders i []) ds)) a.supply = rw t at can.fits in
     let g = feasible_set a i b ds k h l (plus-within (chosen b k).want (chosen d (get_or ds i 0)).want (taken (set a.bidders i []) ds) a.supply w f) in
-    omega (arith, best.most (set ds i k) g, worth-set a i b ds k h l, worth-at a i b cs h m)
+    omega (arith, best.most (set ds i k) g, worth-set a i b ds k h l, worth_in a i b cs h best.can)
+
+abbrev with_all : Auction → List Bids → Auction
+with_all a bs = record { supply = a.supply; keep = a.keep; bidders = bs }
 
 twice : (a : Auction) (i : ℕ) (b c : Bids) → with_bids (with_bids a i b) i c ≡ with_bids a i c
 unfolding with_bids
-twice a i b c =
-    let f : List Bids → Auction = λ l. record { supply = a.supply; keep = a.keep; bidders = l } in
-    ap f (set-set a.bidders i b c)
+twice a i b c = ap (with_all a) (set-set a.bidders i b c)
 
 same : (a : Auction) (i : ℕ) → with_bids a i (get_or a.bidders i []) ≡ a
 unfolding with_bids
-same a i =
-    let f : List Bids → Auction = λ l. record { supply = a.supply; keep = a.keep; bidders = l } in
-    ap f (set-get_or a.bidders i [])
+same a i = ap (with_all a) (set-get_or a.bidders i [])
 
 pub best_same : (a : Auction) (cs ds : List ℕ) → Best a cs → Best a ds → worth_of a cs ≡ worth_of a ds
 best_same a cs ds p q = omega (arith, p.most ds q.can, q.most cs p.can)
@@ -121,15 +127,19 @@ unfolding with_bids gets
 sum_of a i b o h r =
     let c : Charged (with_bids a i b) o i = r.charges i (simp length-set h) in
     let e : get_or (set a.bidders i b) i [] ≡ b = get_or-set_same a.bidders i b [] h in
-    let l : length o.choice ≡ length a.bidders = r.best.can.long ∙ length-set a.bidders i b in
     let g : chosen (get_or (set a.bidders i b) i []) (get_or o.choice i 0) ≡ chosen b (get_or o.choice i 0) = rw e in
     let t : worth_of (with_bids (with_bids a i b) i []) c.without ≡ worth_of (with_bids a i []) c.without = rw (twice a i b []) in
     record {
       without = c.without;
       best = subst (λ (x : Auction). Best x c.without) (twice a i b []) c.best;
-      sum = omega (arith, c.sum, worth-at a i b o.choice h l, ap (λ (x : Bid). x.value) g, t);
+      sum = omega (arith, worth_in a i b o.choice h r.best.can, ap (λ (x : Bid). x.value) g);
       got = g;
     }
+
+-- whatever bidder i states, its charge and what the others have beside it are together the same
+sums_same : (a : Auction) (i : ℕ) (b c : Bids) (o p : Outcome) → Sum a i b o → Sum a i c p
+    → get_or o.charge i 0 + beside a i (chosen b (get_or o.choice i 0)).want o.choice ≡ get_or p.charge i 0 + beside a i (chosen c (get_or p.choice i 0)).want p.choice
+sums_same a i b c o p x y = omega (arith, best_same (with_bids a i []) x.without y.without x.best y.best)
 
 pub charge_law : ChargeLaw
 charge_law a i b c o p h r q same-got =
@@ -142,11 +152,7 @@ charge_law a i b c o p h r q same-got =
     let t = swap a i c b p.choice o.choice (get_or p.choice i 0) h q.best r.best.can z in
     omega (
       arith,
-      x.sum,
-      y.sum,
-      best_same (with_bids a i []) x.without y.without x.best y.best,
-      s,
-      t,
+      sums_same a i b c o p x y,
       ap (λ (g : List ℕ). beside a i g o.choice) e,
       ap (λ (g : List ℕ). beside a i g p.choice) e,
     )
@@ -173,10 +179,8 @@ dearer a i honest other o p k h grows r q w =
     let z : Within (chosen honest k).want (chosen other (get_or p.choice i 0)).want = rw y.got at w in
     omega (
       arith,
-      x.sum,
-      y.sum,
+      sums_same a i honest other o p x y,
       ap (λ (t : Bid). t.value) x.got,
-      best_same (with_bids a i []) x.without y.without x.best y.best,
       beside_grows a i (chosen honest k).want (chosen other (get_or p.choice i 0)).want p.choice grows z,
       swap a i honest other o.choice p.choice k h r.best q.best.can z,
     )
@@ -189,7 +193,6 @@ truthful a i honest other o p h grows r q =
     let u : Within (chosen honest (get_or o.choice i 0)).want (gets (with_bids a i honest) o i).want = rw x.got (within_refl (chosen honest (get_or o.choice i 0)).want) in
     omega (
       arith,
-      by-other.is,
       ap (λ (t : Bid). t.value) x.got,
       by-truth.most (get_or o.choice i 0) u,
       dearer a i honest other o p by-other.at h grows r q by-other.within,
@@ -197,17 +200,17 @@ truthful a i honest other o p h grows r q =
 
 -- bidder i could have taken nothing, and what it takes could have stayed unsold
 module _ (a : Auction) (i : ℕ) (b : Bids) (o : Outcome) (h : i < length a.bidders) (r : Ruled (with_bids a i b) o) where
+  x : Sum a i b o
+  x = sum_of a i b o h r
+
   at_most_with : get_or o.charge i 0 ≤ (gets (with_bids a i b) o i).value
   unfolding with_bids chosen
   at_most_with =
-      let x = sum_of a i b o h r in
-      let l : length x.without ≡ length a.bidders = x.best.can.long ∙ length-set a.bidders i [] in
-      let u : worth_of (with_bids a i []) x.without ≡ beside a i [] x.without = worth-at a i [] x.without h l ∙ rw (no_bids (get_or x.without i 0)) (omega arith) in
+      let u : worth_of (with_bids a i []) x.without ≡ beside a i [] x.without = worth_in a i [] x.without h x.best.can ∙ rw (no_bids (get_or x.without i 0)) (omega arith) in
       omega (
         arith,
         x.sum,
         ap (λ (t : Bid). t.value) x.got,
-        u,
         swap a i b [] o.choice x.without 0 h r.best x.best.can (nil_within (chosen [] (get_or x.without i 0)).want),
       )
 
@@ -215,17 +218,13 @@ module _ (a : Auction) (i : ℕ) (b : Bids) (o : Outcome) (h : i < length a.bidd
       ≤ get_or o.charge i 0 + a.keep (less a.supply (taken (set a.bidders i b) o.choice))
   unfolding with_bids beside chosen
   at_least_with =
-      let x = sum_of a i b o h r in
-      let l : length x.without ≡ length a.bidders = x.best.can.long ∙ length-set a.bidders i [] in
-      let m : length o.choice ≡ length a.bidders = r.best.can.long ∙ length-set a.bidders i b in
+      let m = long_in a i b o.choice r.best.can in
       let t = ap (λ (y : List ℕ). a.keep (less a.supply y)) (taken_at a.bidders i b o.choice h (omega arith)) in
       let k = ap (λ (y : List ℕ). a.keep (less a.supply y)) (nil_plus (taken (set a.bidders i []) o.choice)) in
       omega (
         arith,
         x.sum,
-        worth-at a i [] x.without h l,
-        t,
-        k,
+        worth_in a i [] x.without h x.best.can,
         swap a i [] b x.without o.choice 0 h x.best r.best.can (nil_within (chosen b (get_or o.choice i 0)).want),
       )
 
@@ -247,13 +246,11 @@ room_with : (a : Auction) (i : ℕ) (b : Bids) (cs ws : List ℕ) → i < length
     → worth_of (with_bids a i b) cs ≤ worth_of (with_bids a i []) ws + (chosen b (get_or cs i 0)).value
 unfolding chosen with_bids
 room_with a i b cs ws h grows can best =
-    let l : length cs ≡ length a.bidders = can.long ∙ length-set a.bidders i b in
-    let m : length ws ≡ length a.bidders = best.can.long ∙ length-set a.bidders i [] in
     let g : List ℕ = (chosen b (get_or cs i 0)).want in
     omega (
       arith,
-      worth-at a i b cs h l,
-      worth-at a i [] ws h m,
+      worth_in a i b cs h can,
+      worth_in a i [] ws h best.can,
       beside_grows a i [] g cs grows (nil_within g),
       swap a i [] b ws cs 0 h best can (nil_within g),
     )

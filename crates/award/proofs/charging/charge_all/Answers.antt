@@ -1,6 +1,7 @@
-use Rattle.std.proofs.Common.{◌≡◌, [], get_or, ◌+◌, ◌-◌, ◌<◌, length, ap, ◌∙◌, arith}
-use Rattle.std.proofs.lemmas.List.FromFn.{length-map-range_with_len}
-use Rattle.std.proofs.lemmas.List.{length-map}
+use Rattle.std.proofs.Common.{◌≡◌, [], get_or, set, ◌+◌, ◌-◌, ◌<◌, length, ap, ◌∙◌, arith}
+use Rattle.std.proofs.lemmas.List.FromFn.{fill_by_all, get_or-map-range_with_len, length-map-range_with_len}
+use Rattle.std.proofs.lemmas.List.Edits.{fill_by_more}
+use Rattle.std.proofs.lemmas.List.{get_or-set_other, length-map}
 use Rattle.bundle.specs.Reserves.{prices_of}
 use Rattle.sheets.specs.Sheets.{bids_of}
 use Rattle.table.specs.Tables.{lent_auction}
@@ -11,7 +12,6 @@ use Rattle.vcg.proofs.Outcomes.{charge_room}
 use Rattle.award.proofs.Bounds.{without-small}
 use Rattle.award.proofs.Reserves.{reserve_grows}
 use Rattle.award.proofs.Picks.{stated-is}
-use Rattle.award.proofs.Rewrites.{halfway_at, halfway_more}
 use Rattle.award.proofs.charging.charge_all.Goals.{After-from-stated}
 use Rattle.award.proofs.charging.charge_all.Goals as goal
 
@@ -25,9 +25,7 @@ known c = omega (arith, length-map c.args.auction.now.sheets.now bids_of)
 
 -- what stands in the farm's place, and what it stated for its line
 without : (c : After-from-stated) → get_or c.loop-farm.charges c.loop-farm.farm 0 ≡ worth_without (lent_auction c.args.auction.now) c.loop-farm.farm
-without c =
-    let a = lent_auction c.args.auction.now in
-    halfway_at (worth_without a) (charge_at a) c.loop-farm.charges c.loop-farm.farm (length a.bidders) (known c) c.loop-farm.invariant
+without c = c.loop-farm.invariant.left c.loop-farm.farm (omega arith) (known c)
 
 stated : (c : After-from-stated) → let a = lent_auction c.args.auction.now in
     c.from-stated.result ≡ (chosen (get_or a.bidders c.loop-farm.farm []) (get_or (best_choice a) c.loop-farm.farm 0)).value
@@ -53,7 +51,7 @@ overflow_add-charges c =
     omega (
       arith,
       without (goal.at.overflow_add-charges c).After-from-stated,
-      without-small l.supply.now l.reserve.now l.sheets.now c.loop-farm.farm l.few,
+      without-small l c.loop-farm.farm,
       c.from-stated.ensures,
       c.chosen_line.result.small,
     )
@@ -64,10 +62,30 @@ overflow_sub-charges c =
     let here = (goal.at.overflow_sub-charges c).After-from-stated in
     omega (arith, c.requires.best, without here, stated here, charge_room a c.loop-farm.farm (known here) (reserve_grows a.supply (prices_of c.args.auction.now.reserve.now) a.bidders))
 
+pub loop-farm-init : goal.loop-farm-init
+loop-farm-init c =
+    let a = lent_auction c.args.auction.now in
+    let n = length a.bidders in
+    record {
+      charged = λ k h. absurd (omega arith);
+      left = λ k _ h. ap (λ l. get_or l k 0) c.requires.without ∙ get_or-map-range_with_len (worth_without a) 0 n k k 0 h (omega arith);
+    }
+
 pub loop-farm-preserved : goal.loop-farm-preserved
 unfolding charge_at
 loop-farm-preserved c =
     let a = lent_auction c.args.auction.now in
     let here = (goal.at.loop-farm-preserved c).After-from-stated in
-    halfway_more (worth_without a) (charge_at a) c.loop-farm.charges c.loop-farm.farm (length a.bidders) (known here) c.loop-farm.invariant _
-    (λ i. (without here i + stated here i) - c.requires.best i)
+    let cs = c.loop-farm.charges in
+    let farm = c.loop-farm.farm in
+    record {
+      charged = λ k h. ap (λ v. get_or (set cs farm v) k 0) (λ i. (without here i + stated here i) - c.requires.best i) ∙ fill_by_more (charge_at a) cs farm 0 (fits here) c.loop-farm.invariant.charged k h;
+      left = λ k h l. get_or-set_other cs farm k _ 0 (λ e. omega arith) ∙ c.loop-farm.invariant.left k (omega arith) l;
+    }
+
+pub returns : goal.returns
+returns c =
+    let a = lent_auction c.args.auction.now in
+    let n = length a.bidders in
+    let long : length c.loop-farm.charges ≡ n = omega (arith, c.loop-farm.auto.charges, ap length c.requires.without, length-map-range_with_len (worth_without a) 0 n) in
+    fill_by_all (charge_at a) c.loop-farm.charges n 0 long (λ k h. c.loop-farm.invariant.charged k (omega (arith, length-map c.args.auction.now.sheets.now bids_of)))

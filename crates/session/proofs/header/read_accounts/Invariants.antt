@@ -1,6 +1,6 @@
-use Rattle.std.specs.Prelude.{ℕ, List}
-use Rattle.sheets.specs.Reading.{u32_at}
+use Rattle.std.proofs.Common.{◌≡◌, map, take}
+use Rattle.session.specs.Session.{account_in}
 use Rattle.session.proofs.header.read_accounts.Given as goal
 
-abbrev pub ghost-read_row : goal.ghost-read_row
-ghost-read_row a = λ (part : List ℕ). u32_at part 0
+abbrev pub invariant-loop-part : goal.invariant-loop-part
+invariant-loop-part l = l.accounts.items ≡ map account_in (take l.part-index l.parts)

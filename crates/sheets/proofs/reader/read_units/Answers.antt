@@ -1,33 +1,29 @@
-use Rattle.std.proofs.Common.{◌+◌, length, get_or, take, drop, sym, ap, ◌∙◌, arith, length-set}
+use Rattle.std.proofs.Common.{◌≡◌, ◌+◌, ◌≤◌, ◌==◌, cond, Ok, Err, ap, ◌∙◌, sym, length, arith}
 use Rattle.std.proofs.lemmas.Grind.{common_steps}
+use Rattle.std.proofs.lemmas.Bool.Decides.{nat_tests}
+use Rattle.std.specs.Option.{option_map}
 use Rattle.bundle.specs.Bundles.{units_of}
 use Rattle.bundle.specs.Stocks.{supply_of}
+use Rattle.bundle.proofs.Padding.{made_units}
+use Rattle.sheets.specs.declared.refusals.MessageRefusal.TheVariants.{UnitsAboveSupply}
 use Rattle.sheets.specs.Reading.{units_in, placed}
-use Rattle.sheets.proofs.Over.{few_units}
-use Rattle.sheets.proofs.Walks.{behind, behind_none, get_or_placed, units_stop, units_go, units_end}
+use Rattle.sheets.proofs.Walks.{units_within}
+use Rattle.sheets.proofs.reader.read_units.Goals.{After-unwrap_or-within}
 use Rattle.sheets.proofs.reader.read_units.Goals as goal
 
+within : (c : After-unwrap_or-within) → let cs = c.args.counts.now in
+    (c.unwrap_or-within.result ≤ length cs)
+    × (units_in (supply_of c.args.supply.now) (placed c.args.at cs) c.args.at ≡ cond (c.unwrap_or-within.result == length cs) (Ok cs) (Err (UnitsAboveSupply (c.args.at + c.unwrap_or-within.result))))
+within c =
+    units_within (supply_of c.args.supply.now) c.units-2.result.now c.args.counts.now c.args.at c.unwrap_or-within.result c.first_above.result c.requires.every (c.units-2.ensures ∙ c.units.ensures) c.first_above.ensures c.unwrap_or-within.ensures
+
+pub overflow_add-result : goal.overflow_add-result
+overflow_add-result c = omega (arith, (within (goal.at.overflow_add-result c).After-unwrap_or-within).0, c.requires.fits)
+
 pub returns-in_default : goal.returns-in_default
-returns-in_default c =
-    let bs = placed c.args.at c.args.counts.now in
-    let i = c.loop-lot.lot in
-    sym (units_stop (supply_of c.args.supply.now) (units_of c.loop-lot.units) bs c.args.at i (get_or c.args.counts.now i 0) c.count-most.result (omega arith) (sym (get_or_placed c.args.at i c.args.counts.now)) (c.count-most.ensures ∙ ap (λ l. get_or l i 0) c.units.ensures) c.in_default.ensures)
-    ∙ c.loop-lot.invariant.1
-
-pub loop-lot-init : goal.loop-lot-init
-loop-lot-init c = grind (arith, common_steps, behind_none, few_units c.args.supply.now.units)
-
-pub loop-lot-preserved : goal.loop-lot-preserved
-loop-lot-preserved c =
-    let ss = supply_of c.args.supply.now in
-    let us = units_of c.loop-lot.units in
-    let bs = placed c.args.at c.args.counts.now in
-    let i = c.loop-lot.lot in (
-      ap length c.with_count-units.ensures ∙ simp length-set c.loop-lot.invariant.0,
-      ap (λ l. behind (take (i + 1) l) (units_in (drop (i + 1) ss) bs (c.args.at + (i + 1)))) c.with_count-units.ensures
-          ∙ units_go ss us bs c.args.at i (get_or c.args.counts.now i 0) c.count-most.result (omega arith) (sym (get_or_placed c.args.at i c.args.counts.now)) (c.count-most.ensures ∙ ap (λ l. get_or l i 0) c.units.ensures) c.in-Some.count (omega arith) c.in-Some.ensures
-          ∙ c.loop-lot.invariant.1,
-    )
+returns-in_default c = grind (arith, nat_tests, common_steps, (within (goal.at.returns-in_default c).After-unwrap_or-within).1, c.in_default.ensures)
 
 pub returns : goal.returns
-returns c = grind (arith, common_steps, units_end (supply_of c.args.supply.now) (placed c.args.at c.args.counts.now) (units_of c.loop-lot.units) c.args.at c.loop-lot.lot (omega arith), c.loop-lot.invariant)
+returns c =
+    let made = made_units (units_of c.unwrap.result) c.in-Some.counts.now (ap (option_map units_of) (sym c.unwrap.ensures) ∙ c.new.ensures) in
+    grind (arith, nat_tests, common_steps, (within (goal.at.returns c).After-unwrap_or-within).1, made.1, c.in-Some.ensures)

@@ -1,28 +1,18 @@
-use Rattle.std.proofs.Common.{◌≡◌, ◌-◌, false, ltb, [], ◌∷◌, ◌++◌, length, take, drop, set, Some, refl, sym, ap, ◌∙◌, arith}
+use Rattle.std.proofs.Common.{◌≡◌, ◌-◌, false, ltb, length, set, Some, sym, ap, ◌∙◌, arith}
 use borrow.Rule.Slice.PartMut.{put_mid}
 use Rattle.std.specs.List.{flat_map}
 use Rattle.std.proofs.lemmas.Bool.{le-ltb, cond-false}
-use Rattle.std.proofs.lemmas.List.{drop_at, length-drop, length-take-le}
+use Rattle.std.proofs.lemmas.Grind.{common_steps}
 use Rattle.sheets.specs.Sheets.{bids_of, submission_of}
 use Rattle.sheets.specs.Writing.{line_bytes, u32_bytes, message_bytes}
-use Rattle.sheets.proofs.Over.{head_over, all_over, count_lines, few_lines, rows_bids}
+use Rattle.sheets.proofs.Over.{all_over, count_lines, few_lines, rows_bids}
 use Rattle.sheets.proofs.writer.write.Goals as goal
 
 pub overflow_cast-out : goal.overflow_cast-out
 overflow_cast-out c = omega (arith, few_lines c.args.message.now.sheet c.lines-lines.result.now c.lines-lines.ensures)
 
 pub put_lines-requires : goal.put_lines-requires
-put_lines-requires c =
-    let m = c.args.message.now in
-    let xs = c.args.out.now in
-    let ls = c.lines-lines.result.now in
-    let k = c.size_of-size.result - 6 in
-    let number : c.copy_from_slice.new.self ≡ u32_bytes m.number = c.copy_from_slice.ensures.after ∙ c.to_le_bytes.ensures in
-    ap (λ l. length (take k (drop 6 (set (put_mid 1 4 (set xs 0 m.farm) l) 5 (length ls))))) number
-    ∙ ap (λ l. length (take k (drop 6 l))) (head_over m.farm m.number (length ls) xs (omega arith))
-    ∙ ap (λ l. length (take k l)) (drop_at (m.farm ∷ (u32_bytes m.number ++ (length ls ∷ []))) (drop 6 xs) 6 refl)
-    ∙ length-take-le k (drop 6 xs) (omega (arith, length-drop 6 xs))
-    ∙ omega (arith, ap length (rows_bids m.sheet ls c.lines-lines.ensures))
+put_lines-requires c = grind (arith, common_steps, c.size_of-size.ensures, c.copy_from_slice.ensures.len, ap length (rows_bids c.args.message.now.sheet c.lines-lines.result.now c.lines-lines.ensures))
 
 pub returns : goal.returns
 returns c =

@@ -1,22 +1,17 @@
-use Rattle.std.proofs.Common.{◌≡◌, ℕ, ◌-◌, get_or, ⊎_elim, arith}
-use Rattle.std.proofs.lemmas.List.{get_or_past}
-use Rattle.std.proofs.lemmas.Bool.{cases_lt}
+use Rattle.std.proofs.Common.{◌-◌, rules}
 use Rattle.bundle.specs.Bundles.{units_of}
-use Rattle.bundle.proofs.Padding.{padding, less_front}
+use Rattle.bundle.proofs.FromFn.{from_fn_gives}
+use Rattle.bundle.proofs.Padding.{EachCount, less_padded, less_units}
+use Rattle.bundle.proofs.units.Bundle.minus.Goals.{After-from_fn-counts}
 use Rattle.bundle.proofs.units.Bundle.minus.Goals as goal
+
+left : (c : After-from_fn-counts) → EachCount ◌-◌ c.args.self.now c.args.other.now c.from_fn-counts.result
+left c = from_fn_gives c.from_fn-counts.ensures.items _ (λ i y q e. search rules)
+
+pub invariant_of-result-clause-padded : goal.invariant_of-result-clause-padded
+invariant_of-result-clause-padded c =
+    less_padded c.args.self.now c.args.other.now c.from_fn-counts.result c.from_fn-counts.ensures.items.long (left (goal.at.invariant_of-result-clause-padded c).After-from_fn-counts)
 
 pub returns : goal.returns
 unfolding units_of
-returns c =
-    let a = c.args.self.now in
-    let b = c.args.other.now in
-    let each : (k : ℕ) → get_or c.loop-lot.count-items k 0 ≡ get_or a.counts k 0 - get_or b.counts k 0 =
-    λ k.
-    ⊎_elim
-    (λ h. c.loop-lot.invariant.1 k h)
-    (λ h. omega (arith, c.loop-lot.invariant.2 k h, get_or_past a.counts k 0 (omega arith)))
-    (cases_lt k c.loop-lot.lot) in
-    less_front c.loop-lot.count-items a.counts b.counts a.lots b.lots
-    (c.loop-lot.invariant.0, a.few, λ j h. omega (arith, each j, a.padded j h))
-    (padding a) (padding b)
-    each
+returns c = less_units c.args.self.now c.args.other.now c.from_fn-counts.result c.from_fn-counts.ensures.items.long (left (goal.at.returns c).After-from_fn-counts)

@@ -1,13 +1,12 @@
-use Rattle.std.proofs.Common.{◌≡◌, ℕ, ◌+◌, ◌-◌, ◌*◌, ◌^◌, ◌≤◌, List, ◌++◌, map, length, get_or, drop, set, sym, refl, ap, ◌∙◌, subst, arith, rules}
+use Rattle.std.proofs.Common.{◌≡◌, ◌+◌, ◌-◌, map, length, drop, set, sym, refl, ap, ◌∙◌, subst, arith, rules}
 use Rattle.std.specs.List.{range_with_len}
-use Rattle.std.proofs.lemmas.List.{drop_all, get_or-drop, length-map}
-use Rattle.bundle.specs.Units.{bundles, Within}
-use Rattle.bundle.proofs.Worths.{priced_cap}
+use Rattle.std.proofs.lemmas.List.{drop_all, length-map}
 use Rattle.sheets.specs.Sheets.{bids_of}
 use Rattle.vcg.specs.Optimum.{worth_without}
-use Rattle.table.specs.Tables.{lent_auction, from_row, row}
+use Rattle.table.specs.Tables.{lent_auction, from_row}
 use Rattle.table.proofs.Backs.{Turn, all_to_come, to_come, turn_back, end_back}
-use Rattle.table.proofs.Layers.{FilledFrom, below_filled, counted_more, filled_all, filled_last, filled_more, row_cap, without_is}
+use Rattle.table.proofs.Layers.{FilledFrom, below_filled, counted_more, filled_all, filled_last, filled_more, small_filled, without_is}
+use Rattle.table.proofs.Sheets.{kept_cap, kept_small}
 use Rattle.table.proofs.auction.Auction.fill_each.Goals.{In-Some}
 use Rattle.table.proofs.auction.Auction.fill_each.Goals as goal
 
@@ -29,7 +28,7 @@ loop-farm-init c =
       walk = all_to_come sheets c.into_iter-farm-iterator.result (cc) all;
       filled = subst (λ j. FilledFrom a.supply a.keep a.bidders (from_row a.supply (n + 1) t) j u) here
           (filled_last a.supply a.keep a.bidders (from_row a.supply (n + 1) t) u
-          (subst (λ k. from_row a.supply k u ≡ row a.supply a.keep ++ from_row a.supply (k + 1) t) (sym count) c.keep_row.ensures));
+          c.keep_row.ensures);
       counted = subst (λ j. drop j c.args.without.now ≡ map f (range_with_len j (n - j))) here
           (drop_all n c.args.without.now (omega (arith, c.requires.room)) ∙ ap (λ k. map f (range_with_len n k)) (sym over));
     }
@@ -44,23 +43,16 @@ filled c =
     let a = lent_auction c.args.self.now in
     subst (λ j. FilledFrom a.supply a.keep a.bidders (from_row a.supply (length a.bidders + 1) c.args.table.now) j c.loop-farm.table) (turn c).here c.loop-farm.invariant.filled
 
-pub worth_without_farm-requires-clause-small : goal.worth_without_farm-requires-clause-small
-worth_without_farm-requires-clause-small c p h =
+pub worth_without_farm-requires-clause-row : goal.worth_without_farm-requires-clause-row
+worth_without_farm-requires-clause-row c =
     let a = lent_auction c.args.self.now in
-    let k = c.in-Some.farm in
-    let low : (y : List ℕ) → length y ≡ length a.supply → Within y a.supply → a.keep y ≤ 2 ^ 32 = λ y _ held. priced_cap c.args.self.now.reserve.now c.args.self.now.supply.now y held in
-    omega (
-      arith,
-      get_or-drop ((k + 1) * bundles a.supply) c.loop-farm.table p 0,
-      ap (λ l. get_or l p 0) (filled (goal.at.worth_without_farm-requires-clause-small c).In-Some),
-      row_cap a.supply a.keep (2 ^ 32) low c.args.self.now.sheets.now c.args.self.now.few (k + 1) (from_row a.supply (length a.bidders + 1) c.args.table.now) p h,
-    )
+    small_filled a.supply a.keep (kept_cap c.args.self.now) c.args.self.now.sheets.now c.args.self.now.few (c.in-Some.farm + 1) c.loop-farm.table
+    (from_row a.supply (length a.bidders + 1) c.args.table.now) (filled (goal.at.worth_without_farm-requires-clause-row c).In-Some)
 
 pub fill_row-requires : goal.fill_row-requires
 fill_row-requires c =
     let a = lent_auction c.args.self.now in
-    let low : (y : List ℕ) → length y ≡ length a.supply → Within y a.supply → a.keep y ≤ 2 ^ 40 = λ y _ held. omega (arith, priced_cap c.args.self.now.reserve.now c.args.self.now.supply.now y held) in
-    below_filled a.supply a.keep low c.args.self.now.sheets.now c.args.self.now.few (c.in-Some.farm + 1) _ _ (c.worth_without_farm.ensures.after ∙ filled (goal.at.fill_row-requires c).In-Some)
+    below_filled a.supply a.keep (kept_small c.args.self.now) c.args.self.now.sheets.now c.args.self.now.few (c.in-Some.farm + 1) _ _ (c.worth_without_farm.ensures.after ∙ filled (goal.at.fill_row-requires c).In-Some)
 
 pub loop-farm-preserved : goal.loop-farm-preserved
 loop-farm-preserved c =

@@ -1,10 +1,12 @@
-use Rattle.std.proofs.Common.{◌≡◌, length, take}
+use Rattle.std.proofs.Common.{◌≡◌, map, take}
+use Rattle.std.specs.List.{All}
 use Rattle.bundle.specs.Stocks.{supply_of}
-use Rattle.table.specs.Offers.{places_of}
+use Rattle.sheets.specs.Sheets.{bid_of}
+use Rattle.table.specs.Offers.{Placed, offered}
 use Rattle.table.proofs.offers.Offers.new.Given as goal
 
-abbrev pub invariant-loop-k : goal.invariant-loop-k
-invariant-loop-k l = record {
-  long : length l.places ≡ 32;
-  placed : take l.k l.places ≡ places_of (supply_of l.supply) (take l.k l.lines);
+abbrev pub invariant-loop-line : goal.invariant-loop-line
+invariant-loop-line l = record {
+  placed : All (Placed (supply_of l.supply)) l.offers.items;
+  lines : offered l.offers.items ≡ map bid_of (take l.line-index l.line-items);
 }

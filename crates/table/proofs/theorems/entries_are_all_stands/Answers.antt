@@ -1,5 +1,0 @@
-use Rattle.table.proofs.TableRows.{entries_are_all}
-use Rattle.table.proofs.theorems.entries_are_all_stands.Goals as goal
-
-pub returns : goal.returns
-returns c = entries_are_all
