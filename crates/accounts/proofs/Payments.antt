@@ -80,7 +80,7 @@ never_below_zero supply prices es i all =
     (cases_lt i (length es))
 
 -- no charge is above what a line can state
-charge-small : (supply prices : List ℕ) (sheets : List Sheet) (i : ℕ) → get_or (outcome_of (at_reserve supply prices (map bids_of sheets))).charge i 0 ≤ 2 ^ 32
+pub charge-small : (supply prices : List ℕ) (sheets : List Sheet) (i : ℕ) → get_or (outcome_of (at_reserve supply prices (map bids_of sheets))).charge i 0 ≤ 2 ^ 32
 unfolding gets chosen
 charge-small supply prices sheets i =
     let bs = map bids_of sheets in

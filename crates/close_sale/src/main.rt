@@ -2,7 +2,7 @@
 #![tactic(auto)]
 
 use book::Answer;
-use report::{Refusals, Report};
+use report::{AnswerLine, Report};
 use sale::Sale;
 use session::{RunRefusal, message_count, run};
 use std::process::ExitCode;
@@ -27,10 +27,24 @@ The formats and the numbers are in docs/FORMATS.md. The status is 0 where the sa
 opened, and 1 where it is refused or FILE cannot be read.
 ";
 
+// The lines of the messages that are refused, each printed by itself, so that none is cut where a later one is not written.
+fn print_refused(rt: &HostRuntime, answers: &[Answer]) -> io::Result<()> {
+    for (message, answer) in answers.iter().enumerate() {
+        if answer.is_err() {
+            let line = AnswerLine {
+                message,
+                answer: *answer,
+            };
+            print!(rt; "{line}")?;
+        }
+    }
+    Ok(())
+}
+
 fn print_sale(rt: &HostRuntime, sale: &Sale, answers: &[Answer]) -> io::Result<ExitCode> {
-    let messages = Refusals { answers };
+    print_refused(rt, answers)?;
     let sheets = sale.standing();
-    println!(rt; "{messages}sheets {sheets}")?;
+    println!(rt; "sheets {sheets}")?;
     Ok(ExitCode::SUCCESS)
 }
 

@@ -7,5 +7,5 @@ mod reports;
 mod sessions;
 
 pub use farms::Farms;
-pub use refusals::Refusals;
+pub use refusals::{AnswerLine, Refusals};
 pub use reports::Report;

@@ -1,6 +1,6 @@
 // The lines of what is refused.
 ghost use Rattle.std.specs.Prelude.{Some};
-ghost use Rattle.report.specs.Lines.{refusal, refused_lines};
+ghost use Rattle.report.specs.Lines.{answer_line, refusal, refused_lines};
 
 use book::Answer;
 use sheets::Refusal;
@@ -20,7 +20,29 @@ impl<R: Refusal + Copy> fmt::Display for Refused<R> {
     }
 }
 
-// The lines of the messages that are refused, each by its number in the file.
+// The line of one message, by its number in the file; none where it is taken.
+#[derive(Clone, Copy)]
+pub struct AnswerLine {
+    pub message: usize,
+    pub answer: Answer,
+}
+
+impl fmt::Display for AnswerLine {
+    ghost output = { λ l. Some (answer_line l.message l.answer) };
+
+    fn fmt<W: fmt::Write>(&self, f: &mut fmt::Formatter<W>) -> fmt::Result {
+        match self.answer {
+            Ok(()) => Ok(()),
+            Err(refusal) => {
+                let message = self.message;
+                let refused = Refused(refusal);
+                write!(f, "message {message} {refused}")
+            }
+        }
+    }
+}
+
+// The lines of the messages that are refused.
 #[derive(Clone, Copy)]
 pub struct Refusals<'a> {
     pub answers: &'a [Answer],
@@ -31,10 +53,11 @@ impl<'a> fmt::Display for Refusals<'a> {
 
     fn fmt<W: fmt::Write>(&self, f: &mut fmt::Formatter<W>) -> fmt::Result {
         for (message, answer) in self.answers.iter().enumerate() {
-            if let Err(refusal) = *answer {
-                let refused = Refused(refusal);
-                write!(f, "message {message} {refused}")?;
-            }
+            let line = AnswerLine {
+                message,
+                answer: *answer,
+            };
+            write!(f, "{line}")?;
         }
         Ok(())
     }

@@ -16,7 +16,7 @@ use Rattle.session.proofs.Framing.{frames_back}
 use Rattle.session.proofs.Rows.{number_from, lots_parts, accounts_parts}
 
 -- a number of eight bytes is read back where it stands
-u64_back : (bs rest : List ℕ) (p n : ℕ) → drop p bs ≡ u64_bytes n ++ rest → n < 2 ^ 64 → u64_at bs p ≡ n
+pub u64_back : (bs rest : List ℕ) (p n : ℕ) → drop p bs ≡ u64_bytes n ++ rest → n < 2 ^ 64 → u64_at bs p ≡ n
 u64_back bs rest p n at h =
     let low : n % 4294967296 < 2 ^ 32 = omega arith in
     let high : n / 4294967296 < 2 ^ 32 = omega arith in
@@ -37,20 +37,20 @@ module _ {A : Type 0} (bytes : A → List ℕ) (size : ℕ) (sized : (x : A) →
       (λ i. back x fit.0 i ∷ items_back read Fits back xs rest fit.1 i)
 
 -- a lot takes five bytes, an account four
-length_lots : (ls : List Lot) → length (flat_map lot_bytes ls) ≡ length ls * 5
+pub length_lots : (ls : List Lot) → length (flat_map lot_bytes ls) ≡ length ls * 5
 length_lots ls = length_items lot_bytes 5 ls (λ k d h. refl)
 
-length_accounts : (held : List ℕ) → length (flat_map u32_bytes held) ≡ length held * 4
+pub length_accounts : (held : List ℕ) → length (flat_map u32_bytes held) ≡ length held * 4
 length_accounts held = length_items u32_bytes 4 held (λ k d h. refl)
 
 -- lots are read back, and accounts
-lots_back : (bs rest : List ℕ) (p : ℕ) (ls : List Lot) → drop p bs ≡ flat_map lot_bytes ls ++ rest → AllByRecursion (λ (l : Lot). l.reserve < 2 ^ 32) ls →
+pub lots_back : (bs rest : List ℕ) (p : ℕ) (ls : List Lot) → drop p bs ≡ flat_map lot_bytes ls ++ rest → AllByRecursion (λ (l : Lot). l.reserve < 2 ^ 32) ls →
     lots_at bs p (length ls) ≡ ls
 lots_back bs rest p ls at small =
     sym (lots_parts bs p (length ls)) ∙ ap (λ l. map lot_in (first_chunks 5 (length ls) l)) at
     ∙ items_back lot_bytes 5 (λ l. refl) lot_in (λ l. l.reserve < 2 ^ 32) (λ l fits i. record { units = l.units; reserve = u32_at_bytes (l.units ∷ []) [] l.reserve fits i }) ls rest small
 
-accounts_back : (bs rest : List ℕ) (p : ℕ) (held : List ℕ) → drop p bs ≡ flat_map u32_bytes held ++ rest → AllByRecursion (λ (a : ℕ). a < 2 ^ 32) held →
+pub accounts_back : (bs rest : List ℕ) (p : ℕ) (held : List ℕ) → drop p bs ≡ flat_map u32_bytes held ++ rest → AllByRecursion (λ (a : ℕ). a < 2 ^ 32) held →
     accounts_at bs p (length held) ≡ held
 accounts_back bs rest p held at small =
     sym (accounts_parts bs p (length held)) ∙ ap (λ l. map account_in (first_chunks 4 (length held) l)) at
@@ -65,7 +65,7 @@ opening_parts lots accounts company rest =
     ∙ ap (λ l. flat_map lot_bytes lots ++ (length accounts ∷ l)) (append_assoc (flat_map u32_bytes accounts) (u64_bytes company) rest))
 
 -- how long the opening is
-length_opening : (lots : List Lot) (accounts : List ℕ) (company : ℕ) →
+pub length_opening : (lots : List Lot) (accounts : List ℕ) (company : ℕ) →
     length (opening_bytes lots accounts company) ≡ 2 + length lots * 5 + length accounts * 4 + 8
 length_opening lots accounts company =
     let farms = flat_map u32_bytes accounts ++ u64_bytes company in
@@ -92,7 +92,7 @@ farms_told : (n m : ℕ) (xs rest : List ℕ) → length xs ≡ n * 5 → farm_c
 farms_told n m xs rest e = get_or_at (n ∷ xs) m rest 0 (1 + n * 5) (omega arith)
 
 -- the size of an opening is read back, whatever follows it
-opening_sized : (lots : List Lot) (accounts : List ℕ) (company : ℕ) (rest : List ℕ) →
+pub opening_sized : (lots : List Lot) (accounts : List ℕ) (company : ℕ) (rest : List ℕ) →
     opening_size (opening_bytes lots accounts company ++ rest) ≡ length (opening_bytes lots accounts company)
 opening_sized lots accounts company rest =
     let n = length lots in
@@ -135,7 +135,7 @@ opening_back lots accounts company rest priced held small =
     ∙ opened-by bs m lots accounts company farms long (lots_back bs (m ∷ (hs ++ tail)) 1 lots refl priced) (accounts_back bs tail (2 + n * 5) accounts owned held) (u64_back bs rest (2 + n * 5 + m * 4) company purse small)
 
 -- messages one after the other, and nothing after them
-messages_back : (ms : List (List ℕ)) → messages (flat_map framed ms) ≡ ms
+pub messages_back : (ms : List (List ℕ)) → messages (flat_map framed ms) ≡ ms
 unfolding frames
 messages_back ms = ap messages (sym (append-nil (flat_map framed ms))) ∙ frames_back ms [] ∙ append-nil ms
 

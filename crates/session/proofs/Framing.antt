@@ -5,7 +5,7 @@ use Rattle.std.specs.List.{flat_map}
 use Rattle.session.specs.Frames.{frames, messages, framed, FramesBack}
 
 -- how many messages are asked for does not matter, if there are no more bytes
-frames_enough : (n k : ℕ) (bs : List ℕ) → length bs ≤ n → length bs ≤ k → frames n bs ≡ frames k bs
+pub frames_enough : (n k : ℕ) (bs : List ℕ) → length bs ≤ n → length bs ≤ k → frames n bs ≡ frames k bs
 unfolding frames
 frames_enough zero zero bs h g = refl
 frames_enough zero (suc k) [] h g = refl
@@ -19,7 +19,7 @@ frames_enough (suc n) (suc k) (a ∷ b ∷ bs) h g =
     ap (λ l. take (a + b * 256) bs ∷ l) (frames_enough n k (drop (a + b * 256) bs) (omega arith) (omega arith))
 
 -- the first message, and the others
-messages_more : (a b : ℕ) (bs : List ℕ) → messages (a ∷ b ∷ bs) ≡ take (a + b * 256) bs ∷ messages (drop (a + b * 256) bs)
+pub messages_more : (a b : ℕ) (bs : List ℕ) → messages (a ∷ b ∷ bs) ≡ take (a + b * 256) bs ∷ messages (drop (a + b * 256) bs)
 unfolding frames
 messages_more a b bs =
     let left = length-drop (a + b * 256) bs in

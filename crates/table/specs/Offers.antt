@@ -1,20 +1,14 @@
 -- What a row needs to be filled. Assumes nothing: these are definitions.
 use Rattle.std.specs.Prelude.{◌≡◌, ℕ, ◌+◌, ◌*◌, ◌^◌, ◌<◌, ◌≤◌, List, map, length, slice_index}
-use Rattle.bundle.specs.Bids.{Bids}
 use Rattle.bundle.specs.Bundles.{units_of}
 use Rattle.bundle.specs.Units.{place, bundles, bundle_at}
 use Rattle.bundle.specs.declared.units.Bundle.{Bundle}
-use Rattle.sheets.specs.Sheets.{bid_of}
-use Rattle.table.specs.declared.offers.Offer.{Offer}
+use Rattle.sheets.specs.declared.parts.Line.{Line}
 use Rattle.vcg.specs.Auction.{Auction}
 
--- an offer stands at the place of what its line wants
-abbrev pub Placed : List ℕ → Offer → Type 0
-Placed supply o = o.place ≡ place supply (units_of o.line.units)
-
--- the alternatives that are offered
-abbrev pub offered : List Offer → Bids
-offered os = map (λ (o : Offer). bid_of o.line) os
+-- the place of what each line wants
+abbrev pub places_of : List ℕ → List Line → List ℕ
+places_of supply lines = map (λ (l : Line). place supply (units_of l.units)) lines
 
 -- a row for each bidder and one for the seller
 abbrev pub HasRoom : Auction → List ℕ → Type 0

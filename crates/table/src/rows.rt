@@ -8,7 +8,7 @@ ghost use Rattle.table.specs.Tables.{row, row_below};
 
 use crate::MAX_FARMS;
 use crate::auction::Auction;
-use crate::offers::Offers;
+use crate::offers::{Offers, places_of};
 use bundle::{Bundle, Supply};
 use sheets::Sheet;
 
@@ -59,7 +59,13 @@ impl Auction<'_> {
         requires { let s = (lent_auction self.now).supply in Below s (from_row s (farm + 1) table.old) }
         ensures { let s = (lent_auction self.now).supply in from_row s farm table.new ≡ row s (made s (from_row s (farm + 1) table.old) (bids_of sheet.now)) ++ from_row s (farm + 1) table.old }
     {
-        let offers = Offers::new(self.supply, sheet);
+        let lines = sheet.lines();
+        let places = places_of(self.supply, lines);
+        let offers = Offers {
+            supply: self.supply,
+            lines,
+            places: &places[..lines.len()],
+        };
         let many = self.supply.bundles();
         let (above, below) = table.split_at_mut((farm + 1) * many);
         let below = &*below;

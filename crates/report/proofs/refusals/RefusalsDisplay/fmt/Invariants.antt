@@ -5,4 +5,4 @@ use Rattle.report.proofs.refusals.RefusalsDisplay.fmt.Given as goal
 
 abbrev pub invariant-loop-message : goal.invariant-loop-message
 invariant-loop-message g l =
-    Left g.W.Write.write_str_gives l.initial.f (refused_lines 0 l.fn.self.answers.now) l.f (refused_lines l.message-counter (drop l.message-counter l.fn.self.answers.now))
+    Left g.W.Write.write_str_gives l.initial.f (refused_lines 0 l.self.answers.now) l.f (refused_lines l.message (drop l.message l.self.answers.now))
