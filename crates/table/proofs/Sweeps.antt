@@ -1,5 +1,6 @@
 -- A sweep over the lines of a sheet for one bundle: its start, one line more, and its end. Assumes nothing.
-use Rattle.std.proofs.Common.{◌≡◌, ℕ, ◌+◌, ◌<◌, max, true, false, List, [], ◌∷◌, map, length, get_or, refl, sym, ap, ◌∙◌, arith}
+use Rattle.std.proofs.Common.{◌≡◌, ℕ, suc, ◌+◌, ◌-◌, ◌<◌, max, true, false, List, [], ◌∷◌, ◌++◌, map, length, get_or, take, set, replicate, refl, sym, ap, ◌∙◌, append_assoc, arith}
+use Rattle.std.proofs.lemmas.List.{length-map, length-take-le, map_more, set_at, take_at}
 use Rattle.std.proofs.lemmas.Bool.{cond-true, cond-false}
 use Rattle.bundle.specs.Bids.{Bid}
 use Rattle.bundle.specs.Bundles.{units_of}
@@ -10,6 +11,23 @@ use Rattle.vcg.specs.Optimum.{better, best_among}
 use Rattle.sheets.specs.declared.parts.Line.{Line}
 use Rattle.table.specs.Offers.{places_of}
 use Rattle.table.specs.Tables.{entry, made}
+
+-- one place more
+pub places_more : (s : List ℕ) (ls : List Line) (ps : List ℕ) (k : ℕ) (d : Line) (v : ℕ) → k < length ls → k < 32 → v ≡ place s (units_of (get_or ls k d).units)
+    → ps ≡ places_of s (take k ls) ++ replicate (32 - k) 0 → set ps k v ≡ places_of s (take (k + 1) ls) ++ replicate (32 - (k + 1)) 0
+places_more s ls ps k d v h g is before =
+    let some = places_of s (take k ls) in
+    let rest = replicate {A = ℕ} (32 - (k + 1)) 0 in
+    let more : 32 - k ≡ suc (32 - (k + 1)) = omega arith in
+    let long : length some ≡ k = length-map (take k ls) (λ (l : Line). place s (units_of l.units)) ∙ length-take-le k ls (omega arith) in
+    ap (λ l. set l k v) (before ∙ ap (λ n. some ++ replicate n 0) more)
+    ∙ set_at some 0 rest v k long
+    ∙ ap (λ n. some ++ n ∷ rest) is
+    ∙ sym (append_assoc some (place s (units_of (get_or ls k d).units) ∷ []) rest)
+    ∙ ap (λ l. l ++ rest) (sym (map_more (λ (l : Line). place s (units_of l.units)) ls k d h))
+
+pub places_front : (s : List ℕ) (ls : List Line) (ps rest : List ℕ) → ps ≡ places_of s ls ++ rest → take (length ls) ps ≡ places_of s ls
+places_front s ls ps rest is = ap (take (length ls)) is ∙ take_at (places_of s ls) rest (length ls) (length-map ls (λ (l : Line). place s (units_of l.units)))
 
 -- the place of what the first line leaves of the bundle at the place n
 pub left_of : (s : List ℕ) (ls ms : List Line) (l : Line) (ps qs : List ℕ) (p : ℕ) (x : List ℕ) (n : ℕ) → ps ≡ places_of s ls → ls ≡ l ∷ ms → ps ≡ p ∷ qs

@@ -1,5 +1,5 @@
 // What a sheet makes of each bundle.
-ghost use Rattle.std.specs.Prelude.{◌≡◌, ◌<◌, ◌≤◌, map, length, take};
+ghost use Rattle.std.specs.Prelude.{◌≡◌, ◌-◌, ◌<◌, ◌≤◌, ◌++◌, map, length, take, replicate};
 ghost use Rattle.bundle.specs.Stocks.{supply_of};
 ghost use Rattle.table.specs.Offers.{places_of};
 
@@ -10,6 +10,7 @@ use sheets::Line;
 // An array: a vector of pairs, of a line and its place, is made and moved for each row, which took twice the time where a row is short.
 pub(crate) fn places_of(supply: &Supply, lines: &[Line]) -> [usize; 32]
     requires { length lines.now ≤ 32 }
+    ensures whole { result ≡ places_of (supply_of supply.now) lines.now ++ replicate (32 - length lines.now) 0 }
     ensures long { length result ≡ 32 }
     ensures front { take (length lines.now) result ≡ places_of (supply_of supply.now) lines.now }
 {
